@@ -1,0 +1,49 @@
+-- Codes, colours and their distance (document 01, "Colours and octants"; d² from "Picks").
+use Prim.Native.Nat.{ℕ, _+_, _-_, _*_}
+use mathlib.Core.Bool.{Bool, _&&_}
+use lib.Dec.{leb}
+use Rattle.colour.specs.declared.Colour.{Colour}
+
+-- The three channels, so that a fact about a channel is stated once.
+pub data Channel : Type 0 where
+  Red : Channel
+  Green : Channel
+  Blue : Channel
+
+-- A colour's code in a channel.
+unfoldable pub codeIn : Channel → Colour → ℕ
+codeIn Red c = c .red
+codeIn Green c = c .green
+codeIn Blue c = c .blue
+
+-- The colour with the code f h in each channel h.
+unfoldable pub colourBy : (Channel → ℕ) → Colour
+colourBy f = record { red = f Red; green = f Green; blue = f Blue }
+
+-- A test that holds in each channel.
+unfoldable pub each : (Channel → Bool) → Bool
+each f = f Red && f Green && f Blue
+
+-- The sum over the channels.
+unfoldable pub sumOf : (Channel → ℕ) → ℕ
+sumOf f = f Red + f Green + f Blue
+
+-- Code: a whole number 0..65,535.
+unfoldable pub isCode : ℕ → Bool
+isCode x = leb x 65535
+
+-- A colour: red, green, blue codes. Question 4 asks this.
+unfoldable pub codesFit : Colour → Bool
+codesFit c = each (λ h. isCode (codeIn h c))
+
+-- The colour with the code 0 in each channel.
+unfoldable pub black : Colour
+black = colourBy (λ h. 0)
+
+-- The difference of two codes.
+unfoldable pub apart : ℕ → ℕ → ℕ
+apart x y = (x - y) + (y - x)
+
+-- d²: the sum of the three squared code differences.
+unfoldable pub distance : Colour → Colour → ℕ
+distance a b = sumOf (λ h. apart (codeIn h a) (codeIn h b) * apart (codeIn h a) (codeIn h b))

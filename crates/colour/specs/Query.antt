@@ -1,0 +1,39 @@
+-- Queries taken apart into codes (document 01, "Gestures").
+use Prim.Native.Nat.{ℕ}
+use mathlib.Core.Bool.{Bool, true, false, _&&_}
+use lib.Dec.{leb}
+use Rattle.colour.specs.declared.Colour.{Colour}
+use Rattle.colour.specs.declared.Query.{Query}
+use Rattle.colour.specs.declared.Query.the-variants as Q
+use Rattle.colour.specs.declared.Region.{Region}
+use Rattle.colour.specs.declared.Region.the-variants as R
+use Rattle.colour.specs.declared.panel.Asked.{Asked}
+use Rattle.colour.specs.declared.panel.Asked.the-variants as A
+use Rattle.colour.specs.Colour.{Channel, codeIn, each}
+use Rattle.colour.specs.Panel.{panelGood, radiusGood, codesOf, codeOf}
+
+-- A box needs low ≤ high in each channel, as codes.
+unfoldable pub ordered : Colour → Colour → Bool
+ordered lo hi = each (λ h. leb (codeIn h lo) (codeIn h hi))
+
+-- Question 9: as under Gestures?
+unfoldable pub queryGood : Query → Bool
+queryGood (Q.Ball c r) = panelGood c && radiusGood r
+queryGood (Q.Box lo hi) = (panelGood lo && panelGood hi) && ordered (codesOf lo) (codesOf hi)
+queryGood (Q.Nearest c r) = panelGood c && radiusGood r
+
+-- What a query that is so asks, in codes.
+unfoldable pub inCodes : Query → Asked
+inCodes (Q.Ball c r) = A.List (R.Ball (codesOf c) (codeOf r))
+inCodes (Q.Box lo hi) = A.List (R.Box (codesOf lo) (codesOf hi))
+inCodes (Q.Nearest c r) = A.Nearest (codesOf c) (codeOf r)
+
+-- A query taken apart.
+unfoldable pub askedOf : Query → Asked
+askedOf q = elim (queryGood q) [ true ↦ inCodes q | false ↦ A.Refused ]
+
+-- The paper's number for each case of the enum; the values are those that the case carries.
+unfoldable pub askedNumber : Asked → ℕ
+askedNumber (A.List r) = 0
+askedNumber (A.Nearest c r) = 0
+askedNumber A.Refused = 9
