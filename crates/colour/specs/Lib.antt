@@ -1,7 +1,8 @@
--- Document 01, "Colours and octants" and "Gestures".
+-- Document 01, "Colours and octants", "Gestures", and what a question is.
 pub mod Colour
 pub mod Octant
 pub mod Key
 pub mod Panel
 pub mod Region
 pub mod Query
+pub mod Question

@@ -1,0 +1,169 @@
+-- Cases a to l of document 01 and its walklist example, each a computed test on the definitions, gathered in one table with one theorem.
+use Prim.Native.Nat.{ℕ}
+use mathlib.Core.Bool.{Bool, true, false, _&&_, not}
+use mathlib.Core.Path.{_≡_, refl}
+use mathlib.Core.List.{List, [], _∷_, _++_, map}
+use lib.Dec.{eqb}
+use lib.ListN.{length, take, drop, getD, replicate}
+use lib.Ieee.{Float, binary32, ofBits, round}
+use Rattle.colour.specs.declared.Colour.{Colour}
+use Rattle.colour.specs.declared.PanelColour.{PanelColour}
+use Rattle.colour.specs.declared.Sample.{Sample}
+use Rattle.colour.specs.declared.Query.{Query}
+use Rattle.colour.specs.declared.Query.the-variants.{Ball, Nearest}
+use Rattle.colour.specs.Panel.{codeOf, shown, CodesAnswer, floatsToCodes}
+use Rattle.sheet.specs.Line.{lineBytes}
+use Rattle.model.specs.SampleSet.{SampleSet, order, octants}
+use Rattle.model.specs.Layout.{current}
+use Rattle.model.specs.Tables.{Tables}
+use Rattle.model.specs.Queries.{tagOf}
+use Rattle.model.specs.Machine.{Machine, Call, Load, Add, Remove, Ask, Answer, Outcome, tablesOf, cleared, step}
+use Rattle.model.specs.Walklist.{walklistStart, tagLines, refusedLine, walklistPrints}
+use Rattle.model.specs.Computes.{computes}
+
+-- Whether two lists of words are the same.
+unfoldable pub same : List ℕ → List ℕ → Bool
+same [] [] = true
+same [] (y ∷ ys) = false
+same (x ∷ xs) [] = false
+same (x ∷ xs) (y ∷ ys) = eqb x y && same xs ys
+
+unfoldable pub all : List Bool → Bool
+all [] = true
+all (x ∷ xs) = x && all xs
+
+-- A sample, and a panel colour, with the same in each channel; a float by its bits.
+unfoldable pub grey : ℕ → ℕ → Sample
+grey t v = record { tag = t; colour = record { red = v; green = v; blue = v } }
+
+unfoldable pub panelGrey : Float → PanelColour
+panelGrey v = record { red = v; green = v; blue = v }
+
+unfoldable pub bits : ℕ → Float
+bits w = ofBits binary32 w
+
+-- Machines on room for 16 samples and on a given number of octant words, after some calls.
+unfoldable pub fresh : ℕ → ℕ → Machine
+fresh b words = cleared (record { bucket = b }) 82 words
+
+unfoldable pub after : Machine → List Call → Machine
+after m [] = m
+after m (c ∷ rest) = after (step m c .next) rest
+
+unfoldable pub numbers : Machine → List Call → List ℕ
+numbers m [] = []
+numbers m (c ∷ rest) = step m c .answer .number ∷ numbers (step m c .next) rest
+
+-- Add 7 (0, 0, 0), 8 (65,535 in all), 9 (0, 0, 0).
+unfoldable pub adds : List Call
+adds = Add (grey 7 0) ∷ Add (grey 8 65535) ∷ Add (grey 9 0) ∷ []
+
+unfoldable pub three : Machine
+three = after (fresh 2 199) adds
+
+-- The tags in the order, the next words of the three rows, and the octant table's words.
+unfoldable pub orderTags : Machine → List ℕ
+orderTags m = map tagOf (order (m .set))
+
+unfoldable pub nextWords : Machine → List ℕ
+nextWords m = let words : List ℕ = tablesOf current m .samples in getD words 6 0 ∷ getD words 11 0 ∷ getD words 16 0 ∷ []
+
+unfoldable pub octantWordsOf : Machine → List ℕ
+octantWordsOf m = tablesOf current m .octants
+
+unfoldable pub alone : Machine
+alone = after (fresh 2 199) (Add (record { tag = 1; colour = record { red = 3; green = 4; blue = 0 } }) ∷ [])
+
+-- A ball of r codes at centre 0 in all lists these tags into eight words of 1, with these counts.
+unfoldable pub ballGives : Machine → ℕ → List ℕ → ℕ → ℕ → Bool
+ballGives m r tags entered measured =
+    let a : Answer = step m (Ask (Ball (panelGrey (bits 0)) (shown r)) (replicate 8 1)) .answer in
+    eqb (a .number) 0
+    && eqb (a .listed) (length tags)
+    && same (a .listing) (tags ++ drop (length tags) (replicate 8 1))
+    && eqb (a .entered) entered
+    && eqb (a .measured) measured
+
+-- Nearest to centre 0 with radius 1 finds this tag at d² 0.
+unfoldable pub nearGives : Machine → ℕ → Bool
+nearGives m tag =
+    let a : Answer = step m (Ask (Nearest (panelGrey (bits 0)) (bits 0x37800000)) []) .answer in
+    eqb (a .number) 0 && a .found && eqb (a .tag) tag && eqb (a .distance) 0
+
+-- As a channel, and as a radius: the number, and the code.
+unfoldable pub channelGives : ℕ → ℕ → ℕ → Bool
+channelGives w number code =
+    let a : CodesAnswer = floatsToCodes (panelGrey (bits w)) in
+    eqb (a .number) number && same (a .codes .red ∷ a .codes .green ∷ a .codes .blue ∷ []) (code ∷ code ∷ code ∷ [])
+
+unfoldable pub queryNumber : ℕ → ℕ → ℕ
+queryNumber channel radius = step three (Ask (Ball (panelGrey (bits channel)) (bits radius)) (replicate 8 1)) .answer .number
+
+-- The sheet of the walklist example: header, and a line for each of the three samples, reel A001.
+unfoldable pub blanks : ℕ → List ℕ
+blanks n = replicate n 32
+
+unfoldable pub reelEnd : List ℕ
+reelEnd = 32 ∷ 65 ∷ 48 ∷ 48 ∷ 49 ∷ blanks 28 ++ (10 ∷ [])
+
+unfoldable pub blackLine : ℕ → List ℕ
+blackLine digit = blanks 9 ++ (digit ∷ blanks 5) ++ (48 ∷ blanks 5) ++ (48 ∷ blanks 5) ++ (48 ∷ reelEnd)
+
+unfoldable pub whiteLine : ℕ → List ℕ
+whiteLine digit =
+    blanks 9
+    ++ (digit ∷ 32 ∷ 54 ∷ 53 ∷ 53 ∷ 51 ∷ 53 ∷ 32 ∷ 54 ∷ 53 ∷ 53 ∷ 51 ∷ 53 ∷ 32 ∷ 54 ∷ 53 ∷ 53 ∷ 51 ∷ 53 ∷ reelEnd)
+
+unfoldable pub example : List ℕ
+example =
+    (83 ∷ 87 ∷ 65 ∷ 84 ∷ 67 ∷ 72 ∷ 69 ∷ 83 ∷ 32 ∷ 32 ∷ 32 ∷ 32 ∷ 32 ∷ 51 ∷ 10 ∷ blackLine 55) ++ whiteLine 56 ++ blackLine 57
+
+unfoldable pub cases : List Bool
+cases =
+    -- a. Order 7, 9, 8; next words 2, 3, 1; octant count 3.
+    same (orderTags three) (7 ∷ 9 ∷ 8 ∷ [])
+    ∷ same (nextWords three) (2 ∷ 3 ∷ 1 ∷ [])
+    ∷ eqb (getD (octantWordsOf three) 0 0) 3
+    -- b. The root's row.
+    ∷ same (take 11 (drop 1 (octantWordsOf three))) (0 ∷ 1 ∷ 3 ∷ 1 ∷ 0 ∷ 0 ∷ 0 ∷ 0 ∷ 0 ∷ 0 ∷ 2 ∷ [])
+    -- c. d. e. f. Balls of 0, 1, 113,509 and 113,510 codes.
+    ∷ ballGives three 0 [] 0 0
+    ∷ ballGives three 1 (7 ∷ 9 ∷ []) 2 2
+    ∷ ballGives three 113509 (7 ∷ 9 ∷ []) 3 1
+    ∷ ballGives three 113510 (7 ∷ 9 ∷ 8 ∷ []) 1 0
+    -- g. Nearest: tag 7; 7 removed: tag 9; 7 added anew: still 9.
+    ∷ nearGives three 7
+    ∷ nearGives (after three (Remove 7 ∷ [])) 9
+    ∷ nearGives (after three (Remove 7 ∷ Add (grey 7 0) ∷ [])) 9
+    -- h. b = 1: 18 octants; 199 octant words suffice, with 198 the third add gives 7.
+    ∷ eqb (octants (after (fresh 1 199) adds .set)) 18
+    ∷ same (numbers (fresh 1 199) adds) (0 ∷ 0 ∷ 0 ∷ [])
+    ∷ same (numbers (fresh 1 198) adds) (0 ∷ 0 ∷ 7 ∷ [])
+    -- i. Alone in a set, (3, 4, 0): outside ball 5, inside ball 6.
+    ∷ ballGives alone 5 [] 1 1
+    ∷ ballGives alone 6 (1 ∷ []) 1 1
+    -- j. As a channel 0x3F7FFFFF is 65,535; 0x3F800000 gives 9, as a radius 65,536.
+    ∷ channelGives 0x3F7FFFFF 0 65535
+    ∷ channelGives 0x3F800000 9 0
+    ∷ eqb (queryNumber 0x3F800000 0) 9
+    ∷ eqb (queryNumber 0 0x3F800000) 0
+    ∷ eqb (codeOf (bits 0x3F800000)) 65536
+    -- k. 0x37800000 is 1, 0x377FFFFF is 0, 0x80000000 is 0.
+    ∷ channelGives 0x37800000 0 1
+    ∷ channelGives 0x377FFFFF 0 0
+    ∷ channelGives 0x80000000 0 0
+    -- l. 0xBF000000 and 0x7FC00000 give 9.
+    ∷ channelGives 0xBF000000 9 0
+    ∷ channelGives 0x7FC00000 9 0
+    ∷ eqb (queryNumber 0 0xBF000000) 9
+    ∷ eqb (queryNumber 0 0x7FC00000) 9
+    -- walklist: what it prints for the example, and for its first 200 bytes; its lines are those that the writer writes.
+    ∷ same (walklistPrints example) (blanks 9 ++ (55 ∷ 10 ∷ blanks 9) ++ (57 ∷ 10 ∷ blanks 9) ++ (56 ∷ 10 ∷ []))
+    ∷ same (walklistPrints (take 200 example)) (82 ∷ 69 ∷ 70 ∷ 85 ∷ 83 ∷ 69 ∷ 68 ∷ 32 ∷ 49 ∷ 49 ∷ 10 ∷ [])
+    ∷ same (lineBytes (grey 7 0) (65 ∷ 48 ∷ 48 ∷ 49 ∷ [])) (blackLine 55)
+    ∷ same (lineBytes (grey 8 65535) (65 ∷ 48 ∷ 48 ∷ 49 ∷ [])) (whiteLine 56)
+    ∷ []
+
+pub cases-hold : all cases ≡ true
+unfolding computes cases all same grey panelGrey bits fresh after numbers adds three ballGives nearGives channelGives queryNumber blanks reelEnd blackLine whiteLine example orderTags nextWords octantWordsOf alone walklistStart tagLines refusedLine walklistPrints ofBits round
+cases-hold = refl

@@ -1,0 +1,94 @@
+-- Every word of both tables (document 01, "The tables"), for a layout, a sample set and the two lengths.
+use Prim.Native.Nat.{ℕ, zero, suc, _+_}
+use mathlib.Core.Bool.{true, false}
+use mathlib.Core.List.{List, [], _∷_, _++_, map}
+use lib.Dec.{eqb}
+use lib.ListN.{length}
+use Rattle.colour.specs.Colour.{codeIn}
+use Rattle.colour.specs.Octant.{depths, children}
+use Rattle.model.specs.Lists.{joined, total, padded}
+use Rattle.model.specs.SampleSet.{Settings, SampleSet, Placed, placed, part, splits, orderOf, octantsOf, order, octants}
+use Rattle.model.specs.Layout.{Setting, Bucket, SampleField, Tag, Code, Next, OctantField, First, Last, Count, Child, Layout}
+
+-- The row of the first, and of the last; d where there is none.
+unfoldable pub firstRow : ℕ → List Placed → ℕ
+firstRow d [] = d
+firstRow d (x ∷ rest) = x .row
+
+unfoldable pub lastRow : ℕ → List Placed → ℕ
+lastRow d [] = d
+lastRow d (x ∷ rest) = lastRow (x .row) rest
+
+-- The row that follows row i in an order; n after the last.
+unfoldable pub nextRow : ℕ → ℕ → List Placed → ℕ
+nextRow n i [] = n
+nextRow n i (x ∷ rest) = elim (eqb (x .row) i) [ true ↦ firstRow n rest | false ↦ nextRow n i rest ]
+
+-- The sample table: the count, the settings, and a row for each sample by arrival.
+unfoldable pub settingWord : Settings → Setting → ℕ
+settingWord s Bucket = s .bucket
+
+unfoldable pub sampleWord : ℕ → List Placed → Placed → SampleField → ℕ
+sampleWord n ordered x Tag = x .sample .tag
+sampleWord n ordered x (Code h) = codeIn h (x .sample .colour)
+sampleWord n ordered x Next = nextRow n (x .row) ordered
+
+unfoldable pub sampleRowsOf : Layout → ℕ → List Placed → List Placed → List ℕ
+sampleRowsOf L n ordered [] = []
+sampleRowsOf L n ordered (x ∷ rest) = map (sampleWord n ordered x) (L .sample) ++ sampleRowsOf L n ordered rest
+
+unfoldable pub sampleWords : Layout → SampleSet → List ℕ
+sampleWords L set =
+    length (set .samples)
+    ∷ map (settingWord (set .settings)) (L .settings)
+    ++ sampleRowsOf L (length (set .samples)) (order set) (placed set)
+
+-- Octants are numbered from 0, an octant before its children and child 0's whole subtree before child 1's.
+-- This is the number of child k, of side 2 ^ j, of the split octant number `at` that holds xs.
+unfoldable pub childRow : ℕ → ℕ → ℕ → List Placed → ℕ → ℕ
+childRow b j at xs k = suc at + total (λ i. octantsOf b j (part j i xs)) k
+
+-- A child's word: its row, 0 where it is not in the tree.
+unfoldable pub rowOrNone : ℕ → List Placed → ℕ
+rowOrNone row [] = 0
+rowOrNone row (x ∷ xs) = row
+
+unfoldable pub childWord : ℕ → ℕ → ℕ → List Placed → ℕ → ℕ
+childWord b zero at xs k = 0
+childWord b (suc j) at xs k = elim (splits b (suc j) xs) [ true ↦ rowOrNone (childRow b j at xs k) (part j k xs) | false ↦ 0 ]
+
+-- A word of the row of octant number `at`, of side 2 ^ j, that holds xs.
+unfoldable pub octantWord : ℕ → ℕ → ℕ → List Placed → OctantField → ℕ
+octantWord b j at xs First = firstRow 0 (orderOf b j xs)
+octantWord b j at xs Last = lastRow 0 (orderOf b j xs)
+octantWord b j at xs Count = length xs
+octantWord b j at xs (Child k) = childWord b j at xs k
+
+-- Its row; none where it is not in the tree.
+unfoldable pub octantRow : Layout → ℕ → ℕ → ℕ → List Placed → List ℕ
+octantRow L b j at [] = []
+octantRow L b j at (x ∷ xs) = map (octantWord b j at (x ∷ xs)) (L .octant)
+
+-- Its row and those of the octants below it.
+unfoldable pub octantRowsOf : Layout → ℕ → ℕ → ℕ → List Placed → List ℕ
+octantRowsOf L b zero at xs = octantRow L b zero at xs
+octantRowsOf L b (suc j) at xs =
+    elim (splits b (suc j) xs) [
+      | true ↦ octantRow L b (suc j) at xs ++ joined (λ k. octantRowsOf L b j (childRow b j at xs k) (part j k xs)) children
+      | false ↦ octantRow L b (suc j) at xs
+    ]
+
+unfoldable pub octantWords : Layout → SampleSet → List ℕ
+octantWords L set = octants set ∷ octantRowsOf L (set .settings .bucket) depths 0 (placed set)
+
+-- The words of two tables.
+pub record Tables : Type 0 where
+  pub samples : List ℕ
+  pub octants : List ℕ
+
+abbrev pub pair : List ℕ → List ℕ → Tables
+pair s o = record { samples = s; octants = o }
+
+-- The tables of a set, at the two lengths. Every word not named is 0.
+unfoldable pub tablesFor : Layout → SampleSet → ℕ → ℕ → Tables
+tablesFor L set sampleLength octantLength = pair (padded sampleLength (sampleWords L set)) (padded octantLength (octantWords L set))

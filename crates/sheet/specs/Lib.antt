@@ -1,0 +1,4 @@
+-- Document 01, "Sheets".
+pub mod Column
+pub mod Line
+pub mod Sheet

@@ -1,0 +1,93 @@
+-- Whole sheets: the header, the lines, and the name lookup (document 01, "Sheets").
+use Prim.Native.Nat.{ℕ, zero, suc, _+_, _*_}
+use mathlib.Core.Bool.{Bool, true, false, _&&_}
+use mathlib.Core.List.{List, [], _∷_}
+use mathlib.Core.Option.{Option, none, some}
+use lib.Dec.{eqb}
+use lib.ListN.{length, take, drop, getD}
+use Rattle.sheet.specs.Column.{newline, columnNumber}
+use Rattle.sheet.specs.Line.{Line, lineOf, lineLength, nameStart}
+
+-- The eight bytes `SWATCHES`.
+unfoldable pub title : List ℕ
+title = 83 ∷ 87 ∷ 65 ∷ 84 ∷ 67 ∷ 72 ∷ 69 ∷ 83 ∷ []
+
+unfoldable pub sameBytes : List ℕ → List ℕ → Bool
+sameBytes [] [] = true
+sameBytes [] (y ∷ ys) = false
+sameBytes (x ∷ xs) [] = false
+sameBytes (x ∷ xs) (y ∷ ys) = eqb x y && sameBytes xs ys
+
+unfoldable pub countColumns : ℕ
+countColumns = 6
+
+-- 15 bytes.
+unfoldable pub headerLength : ℕ
+headerLength = length title + countColumns + 1
+
+-- Where line k starts: byte 15 + 62 × k.
+unfoldable pub lineStart : ℕ → ℕ
+lineStart k = headerLength + lineLength * k
+
+-- A header is good when so formed and the sheet is exactly 15 + 62 × count bytes. Question 11 asks this; the count is the number of lines.
+unfoldable pub countIf : Bool → Option ℕ → List ℕ → Option ℕ
+countIf false n s = none
+countIf true none s = none
+countIf true (some n) s = elim (eqb (length s) (lineStart n)) [ true ↦ some n | false ↦ none ]
+
+unfoldable pub lineCount : List ℕ → Option ℕ
+lineCount s =
+    countIf (sameBytes (take (length title) s) title && eqb (getD s (length title + countColumns) 0) newline)
+    (columnNumber (take countColumns (drop (length title) s))) s
+
+-- Line k: the part of the sheet that starts at byte 15 + 62 × k.
+unfoldable pub linePart : List ℕ → ℕ → List ℕ
+linePart s k = take lineLength (drop (lineStart k) s)
+
+-- n lines from line k on, each none where it is not good.
+unfoldable pub linesFrom : List ℕ → ℕ → ℕ → List (Option Line)
+linesFrom s k zero = []
+linesFrom s k (suc n) = lineOf (linePart s k) ∷ linesFrom s (suc k) n
+
+-- The lines of a sheet; none where the header is not good.
+unfoldable pub linesBy : Option ℕ → List ℕ → Option (List (Option Line))
+linesBy none s = none
+linesBy (some n) s = some (linesFrom s 0 n)
+
+unfoldable pub linesOf : List ℕ → Option (List (Option Line))
+linesOf s = linesBy (lineCount s) s
+
+-- A part of a sheet: where it starts, and how many bytes it has.
+pub record Part : Type 0 where
+  pub start : ℕ
+  pub length : ℕ
+
+unfoldable pub emptyPart : Part
+emptyPart = record { start = 0; length = 0 }
+
+unfoldable pub bytesOf : Part → List ℕ → List ℕ
+bytesOf p s = take (p .length) (drop (p .start) s)
+
+-- Whether all lines are good.
+unfoldable pub allGood : List (Option Line) → Bool
+allGood [] = true
+allGood (none ∷ rest) = false
+allGood (some l ∷ rest) = allGood rest
+
+-- The part that holds the name in the first line with the tag, of lines from line k on; the empty part if there is none.
+unfoldable pub namePartFrom : ℕ → ℕ → List (Option Line) → Part
+namePartFrom tag k [] = emptyPart
+namePartFrom tag k (none ∷ rest) = namePartFrom tag (suc k) rest
+namePartFrom tag k (some l ∷ rest) =
+    elim (eqb (l .sample .tag) tag) [
+      | true ↦ record { start = lineStart k + nameStart; length = l .nameLength }
+      | false ↦ namePartFrom tag (suc k) rest
+    ]
+
+-- The name lookup: the empty part also if the header or any line is not good.
+unfoldable pub namePartOf : ℕ → Option (List (Option Line)) → Part
+namePartOf tag none = emptyPart
+namePartOf tag (some lines) = elim (allGood lines) [ true ↦ namePartFrom tag 0 lines | false ↦ emptyPart ]
+
+unfoldable pub namePart : List ℕ → ℕ → Part
+namePart s tag = namePartOf tag (linesOf s)
