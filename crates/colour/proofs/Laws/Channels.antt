@@ -7,7 +7,7 @@ use native.Mathlib.Omega.{arith}
 use lib.Dec.{leb, ltb}
 use borrow.Author.Tests.{ltb-true, leb-true, lt-ltb, le-leb}
 use Rattle.colour.specs.declared.Colour.{Colour}
-use Rattle.colour.specs.Colour.{Channel, codeIn, colourBy, each, sumOf}
+use Rattle.colour.specs.Colour.{Channel, codeIn, colourBy, each, sumOf, isCode, codesFit}
 use Rattle.colour.specs.Octant.{cubeHolds}
 
 -- Both tests of a conjunction pass exactly when it does.
@@ -18,10 +18,11 @@ and-both false b = (λ e. absurd (false≢true e), λ e. e .0)
 -- A test holds in each channel exactly when it holds in every channel h.
 pub each-every : (f : Channel → Bool) → (each f ≡ true) ↔ ((h : Channel) → f h ≡ true)
 unfolding each
-each-every f =
-    (λ e. let rg = and-both (f Channel.Red && f Channel.Green) (f Channel.Blue) .0 e in
-    let r = and-both (f Channel.Red) (f Channel.Green) .0 (rg .0) in elim [ Channel.Red ↦ r .0 | Channel.Green ↦ r .1 | Channel.Blue ↦ rg .1 ],
-    λ e. and-both (f Channel.Red && f Channel.Green) (f Channel.Blue) .1 (and-both (f Channel.Red) (f Channel.Green) .1 (e Channel.Red, e Channel.Green), e Channel.Blue))
+each-every f = (
+  λ e. let rg = and-both (f Channel.Red && f Channel.Green) (f Channel.Blue) .0 e in
+      let r = and-both (f Channel.Red) (f Channel.Green) .0 (rg .0) in elim [ Channel.Red ↦ r .0 | Channel.Green ↦ r .1 | Channel.Blue ↦ rg .1 ],
+  λ e. and-both (f Channel.Red && f Channel.Green) (f Channel.Blue) .1 (and-both (f Channel.Red) (f Channel.Green) .1 (e Channel.Red, e Channel.Green), e Channel.Blue),
+)
 
 -- Tests that agree in every channel agree in each.
 pub each-same : (f g : Channel → Bool) → ((h : Channel) → f h ≡ g h) → each f ≡ each g
@@ -58,7 +59,13 @@ pub record Among (s low x : ℕ) : Type 0 where
 -- A colour lies in the cube of side s at low exactly when each of its codes lies among the cube's.
 pub cube-among : (s : ℕ) (low c : Colour) → (cubeHolds s low c ≡ true) ↔ ((h : Channel) → Among s (codeIn h low) (codeIn h c))
 unfolding cubeHolds
-cube-among s low c =
-    (λ e h. let t = and-both (leb (codeIn h low) (codeIn h c)) (ltb (codeIn h c) (codeIn h low + s)) .0 (each-every _ .0 e h) in
-    record { least = leb-true _ _ (t .0); below = ltb-true _ _ (t .1) },
-    λ m. each-every _ .1 (λ h. and-both (leb (codeIn h low) (codeIn h c)) (ltb (codeIn h c) (codeIn h low + s)) .1 (le-leb _ _ (m h .least), lt-ltb _ _ (m h .below))))
+cube-among s low c = (
+  λ e h. let t = and-both (leb (codeIn h low) (codeIn h c)) (ltb (codeIn h c) (codeIn h low + s)) .0 (each-every _ .0 e h) in
+      record { least = leb-true _ _ (t .0); below = ltb-true _ _ (t .1) },
+  λ m. each-every _ .1 (λ h. and-both (leb (codeIn h low) (codeIn h c)) (ltb (codeIn h c) (codeIn h low + s)) .1 (le-leb _ _ (m h .least), lt-ltb _ _ (m h .below))),
+)
+
+-- "A code is a whole number 0..65,535": what a colour in range is.
+pub fit-codes : (c : Colour) → (codesFit c ≡ true) ↔ ((h : Channel) → codeIn h c ≤ 65535)
+unfolding codesFit isCode
+fit-codes c = (λ e h. leb-true _ _ (each-every _ .0 e h), λ e. each-every _ .1 (λ h. le-leb _ _ (e h)))
