@@ -2,3 +2,4 @@
 pub mod Channels
 pub mod Octants
 pub mod Keys
+pub mod Extremes

@@ -1,0 +1,163 @@
+-- Closest and farthest colours of a cube, and how a cube lies to a ball or a box (document 01, "Picks").
+use Prim.Native.Nat.{ℕ, suc, _+_, _-_, _*_, max, _≤_, _<_}
+use mathlib.Core.Bool.{Bool, true, false, _&&_}
+use mathlib.Core.Path.{_≡_, refl, sym, ap, ap₂, _∙_}
+use mathlib.Core.Logic.{_↔_}
+use native.Mathlib.Nat.{add-comm, mul-le-mul, lt-of-le-of-lt}
+use native.Mathlib.Omega.{arith}
+use lib.Dec.{leb, ltb}
+use borrow.Author.Tests.{ltb-true, leb-true, leb-false, lt-ltb, le-leb}
+use Rattle.colour.specs.declared.Colour.{Colour}
+use Rattle.colour.specs.declared.Region.{Region}
+use Rattle.colour.specs.declared.Region.the-variants.{Ball, Box}
+use Rattle.colour.specs.Colour.{Channel, codeIn, colourBy, each, sumOf, codesFit, apart, distance}
+use Rattle.colour.specs.Octant.{cubeHolds, lastCode}
+use Rattle.colour.specs.Region.{closestCode, farthestCode, closest, farthest, holds, overlaps, inside}
+use Rattle.colour.specs.Query.{ordered}
+use Rattle.colour.proofs.Laws.Channels.{Among, and-both, each-every, each-same, sum-grows, sum-same, code-by, cube-among, fit-codes}
+
+-- d² grows with each of the three code differences.
+pub distance-grows : (a b c d : Colour)
+    → ((h : Channel) → apart (codeIn h a) (codeIn h b) ≤ apart (codeIn h c) (codeIn h d)) → distance a b ≤ distance c d
+unfolding distance
+distance-grows a b c d e = sum-grows _ _ (λ h. mul-le-mul (e h) (e h))
+
+-- d² is symmetric.
+pub distance-symmetric : (a b : Colour) → distance a b ≡ distance b a
+unfolding distance apart
+distance-symmetric a b =
+    sum-same _ _ (λ h. ap (λ (n : ℕ). n * n) (add-comm (codeIn h a - codeIn h b) (codeIn h b - codeIn h a)))
+
+-- A colour is at the distance 0 from itself.
+pub distance-self : (a : Colour) → distance a a ≡ 0
+unfolding distance apart sumOf
+distance-self a = sum-same _ (λ h. 0) (λ h. ap (λ (n : ℕ). n * n) (apart-self (codeIn h a)))
+  where
+    apart-self : (x : ℕ) → apart x x ≡ 0
+    apart-self x = omega arith
+
+-- "d² reaches 12,884,508,675", and no more, for colours in range.
+pub distance-bound : (a b : Colour) → codesFit a ≡ true → codesFit b ≡ true → distance a b ≤ 12884508675
+unfolding distance apart sumOf
+distance-bound a b fa fb = sum-grows _ (λ h. 65535 * 65535) (λ h. mul-le-mul (near h) (near h))
+  where
+    near : (h : Channel) → apart (codeIn h a) (codeIn h b) ≤ 65535
+    near h = omega (arith, fit-codes a .0 fa h, fit-codes b .0 fb h)
+
+-- A code r of a stretch of s codes from low such that no code y of the stretch is closer to x; and one such that none is farther.
+pub record Closest (s low x r : ℕ) : Type 0 where
+  pub among : Among s low r
+  pub extreme : (y : ℕ) → Among s low y → apart x r ≤ apart x y
+
+pub record Farthest (s low x r : ℕ) : Type 0 where
+  pub among : Among s low r
+  pub extreme : (y : ℕ) → Among s low y → apart x y ≤ apart x r
+
+pub closest-code : (s low x : ℕ) → 1 ≤ s → Closest s low x (closestCode low (lastCode s low) x)
+unfolding closestCode lastCode apart
+closest-code s low x p = go (leb x low) refl (leb (lastCode s low) x) refl
+  where
+    go : (a : Bool) → leb x low ≡ a → (b : Bool) → leb (lastCode s low) x ≡ b → Closest s low x (closestCode low (lastCode s low) x)
+    go true e b f = rw (e, closestCode) (record { among = omega arith; extreme = λ y i. omega (arith, leb-true x low e) })
+    go false e true f = rw (e, f, closestCode) (record { among = omega arith; extreme = λ y i. omega (arith, leb-true (lastCode s low) x f) })
+    go false e false f =
+        rw (e, f, closestCode) (record { among = omega (arith, leb-false x low e, leb-false (lastCode s low) x f); extreme = λ y i. omega arith })
+
+-- No code of a stretch is farther from x than the farther of its two ends.
+ends : (x first last y : ℕ) → first ≤ y → y ≤ last
+    → (apart x first ≤ apart x last → apart x y ≤ apart x last) × (apart x last < apart x first → apart x y ≤ apart x first)
+unfolding apart
+ends x first last y a b = omega arith
+
+pub farthest-code : (s low x : ℕ) → 1 ≤ s → Farthest s low x (farthestCode low (lastCode s low) x)
+unfolding farthestCode lastCode
+farthest-code s low x p = go (leb (apart x low) (apart x (lastCode s low))) refl
+  where
+    go : (a : Bool) → leb (apart x low) (apart x (lastCode s low)) ≡ a → Farthest s low x (farthestCode low (lastCode s low) x)
+    go true e = rw (e, farthestCode) (record { among = omega arith; extreme = λ y i. ends x low (lastCode s low) y (i .least) (omega arith) .0 (leb-true _ _ e) })
+    go false e = rw (e, farthestCode) (record { among = omega arith; extreme = λ y i. ends x low (lastCode s low) y (i .least) (omega arith) .1 (leb-false _ _ e) })
+
+-- "Its closest colour": it is the cube's, and no colour of the cube is closer to c.
+pub closest-colour : (c : Colour) (s : ℕ) (low : Colour) → 1 ≤ s
+    → (cubeHolds s low (closest c s low) ≡ true) × ((x : Colour) → cubeHolds s low x ≡ true → distance c (closest c s low) ≤ distance c x)
+unfolding closest
+closest-colour c s low p =
+    (cube-among s low _ .1 (λ h. law h .among), λ x i. distance-grows c _ c x (λ h. law h .extreme (codeIn h x) (cube-among s low x .0 i h)))
+  where
+    law : (h : Channel) → Closest s (codeIn h low) (codeIn h c) (codeIn h (closest c s low))
+    law h = rw code-by (closest-code s (codeIn h low) (codeIn h c) p)
+
+-- "Its farthest": it is the cube's, and no colour of the cube is farther from c.
+pub farthest-colour : (c : Colour) (s : ℕ) (low : Colour) → 1 ≤ s
+    → (cubeHolds s low (farthest c s low) ≡ true) × ((x : Colour) → cubeHolds s low x ≡ true → distance c x ≤ distance c (farthest c s low))
+unfolding farthest
+farthest-colour c s low p =
+    (cube-among s low _ .1 (λ h. law h .among), λ x i. distance-grows c x c _ (λ h. law h .extreme (codeIn h x) (cube-among s low x .0 i h)))
+  where
+    law : (h : Channel) → Farthest s (codeIn h low) (codeIn h c) (codeIn h (farthest c s low))
+    law h = rw code-by (farthest-code s (codeIn h low) (codeIn h c) p)
+
+-- Two orders tested in each channel.
+orders : (a b c d : Channel → ℕ) → (each (λ h. leb (a h) (b h) && leb (c h) (d h)) ≡ true) ↔ ((h : Channel) → (a h ≤ b h) × (c h ≤ d h))
+orders a b c d = (
+  λ e h. let t = and-both (leb (a h) (b h)) (leb (c h) (d h)) .0 (each-every _ .0 e h) in (leb-true _ _ (t .0), leb-true _ _ (t .1)),
+  λ m. each-every _ .1 (λ h. and-both (leb (a h) (b h)) (leb (c h) (d h)) .1 (le-leb _ _ (m h .0), le-leb _ _ (m h .1))),
+)
+
+-- What the tests of a box from lo to hi say: of a colour x, and of the octant of side s at low.
+module _ (lo hi : Colour) where
+  box-ordered : ordered lo hi ≡ true → (h : Channel) → codeIn h lo ≤ codeIn h hi
+  unfolding ordered
+  box-ordered e h = leb-true _ _ (each-every _ .0 e h)
+
+  -- "low ≤ code ≤ high in all channels."
+  pub box-holds : (x : Colour) → (holds (Box lo hi) x ≡ true) ↔ ((h : Channel) → (codeIn h lo ≤ codeIn h x) × (codeIn h x ≤ codeIn h hi))
+  unfolding holds
+  box-holds x = orders (λ h. codeIn h lo) (λ h. codeIn h x) (λ h. codeIn h x) (λ h. codeIn h hi)
+
+  box-overlaps : (s : ℕ) (low : Colour)
+      → (overlaps (Box lo hi) s low ≡ true) ↔ ((h : Channel) → (codeIn h lo ≤ lastCode s (codeIn h low)) × (codeIn h low ≤ codeIn h hi))
+  unfolding overlaps
+  box-overlaps s low = orders (λ h. codeIn h lo) (λ h. lastCode s (codeIn h low)) (λ h. codeIn h low) (λ h. codeIn h hi)
+
+  box-inside : (s : ℕ) (low : Colour)
+      → (inside (Box lo hi) s low ≡ true) ↔ ((h : Channel) → (codeIn h lo ≤ codeIn h low) × (lastCode s (codeIn h low) ≤ codeIn h hi))
+  unfolding inside
+  box-inside s low = orders (λ h. codeIn h lo) (λ h. codeIn h low) (λ h. lastCode s (codeIn h low)) (λ h. codeIn h hi)
+
+-- "A box needs low ≤ high in each channel"; a ball needs nothing.
+unfoldable pub proper : Region → Bool
+proper (Ball c r) = true
+proper (Box lo hi) = ordered lo hi
+
+-- "An octant overlaps a ball when its closest colour to the centre has d² < r². For a box: some colour in it." In both, it overlaps exactly
+-- when some colour lies in the octant and in the ball or box.
+pub overlaps-some : (g : Region) (s : ℕ) (low : Colour) → 1 ≤ s → proper g ≡ true
+    → (overlaps g s low ≡ true) ↔ ((x : Colour) × (cubeHolds s low x ≡ true) × (holds g x ≡ true))
+unfolding overlaps holds proper lastCode
+overlaps-some (Ball c r) s low p o =
+    let t = closest-colour c s low p in
+    (λ e. (closest c s low, t .0, e), λ e. lt-ltb _ _ (lt-of-le-of-lt (t .1 (e .0) (e .1)) (ltb-true _ _ (e .2))))
+overlaps-some (Box lo hi) s low p o = (
+  λ e. let x : Colour = colourBy (λ h. max (codeIn h lo) (codeIn h low)) in (
+    x,
+    cube-among s low x .1 (λ h. rw code-by (omega (arith, box-overlaps lo hi s low .0 e h))),
+    box-holds lo hi x .1 (λ h. rw code-by (omega (arith, box-overlaps lo hi s low .0 e h, box-ordered lo hi o h))),
+  ),
+  λ e. box-overlaps lo hi s low .1 (λ h. omega (arith, cube-among s low (e .0) .0 (e .1) h, box-holds lo hi (e .0) .0 (e .2) h)),
+)
+
+-- "And is inside when its farthest has. For a box: all colours in it." In both, it is inside exactly when the ball or box holds all its colours.
+pub inside-all : (g : Region) (s : ℕ) (low : Colour) → 1 ≤ s
+    → (inside g s low ≡ true) ↔ ((x : Colour) → cubeHolds s low x ≡ true → holds g x ≡ true)
+unfolding inside holds lastCode
+inside-all (Ball c r) s low p =
+    let t = farthest-colour c s low p in
+    (λ e x i. lt-ltb _ _ (lt-of-le-of-lt (t .1 x i) (ltb-true _ _ e)), λ e. e (farthest c s low) (t .0))
+inside-all (Box lo hi) s low p = (
+  λ e x i. box-holds lo hi x .1 (λ h. omega (arith, cube-among s low x .0 i h, box-inside lo hi s low .0 e h)),
+  λ e. let last : Colour = colourBy (λ h. lastCode s (codeIn h low)) in
+      let a = box-holds lo hi low .0 (e low (cube-among s low low .1 (λ h. omega arith))) in
+      let b = box-holds lo hi last .0 (e last (cube-among s low last .1 (λ h. rw code-by (omega arith)))) in
+      box-inside lo hi s low .1 (λ h. (a h .0, rw code-by at (b h .1))),
+)
