@@ -1,11 +1,11 @@
 -- Closest and farthest colours of a cube, and how a cube lies to a ball or a box (document 01, "Picks").
-use Prim.Native.Nat.{ℕ, suc, _+_, _-_, _*_, max, _≤_, _<_}
+use Prim.Native.Nat.{ℕ, _-_, _*_, max, _≤_, _<_}
 use mathlib.Core.Bool.{Bool, true, false, _&&_}
-use mathlib.Core.Path.{_≡_, refl, sym, ap, ap₂, _∙_}
+use mathlib.Core.Path.{_≡_, refl, ap}
 use mathlib.Core.Logic.{_↔_}
 use native.Mathlib.Nat.{add-comm, mul-le-mul, lt-of-le-of-lt}
 use native.Mathlib.Omega.{arith}
-use lib.Dec.{leb, ltb}
+use lib.Dec.{leb}
 use borrow.Author.Tests.{ltb-true, leb-true, leb-false, lt-ltb, le-leb}
 use Rattle.colour.specs.declared.Colour.{Colour}
 use Rattle.colour.specs.declared.Region.{Region}
@@ -14,7 +14,7 @@ use Rattle.colour.specs.Colour.{Channel, codeIn, colourBy, each, sumOf, 
 use Rattle.colour.specs.Octant.{cubeHolds, lastCode}
 use Rattle.colour.specs.Region.{closestCode, farthestCode, closest, farthest, holds, overlaps, inside}
 use Rattle.colour.specs.Query.{ordered}
-use Rattle.colour.proofs.Laws.Channels.{Among, and-both, each-every, each-same, sum-grows, sum-same, code-by, cube-among, fit-codes}
+use Rattle.colour.proofs.Laws.Channels.{Among, and-both, each-every, sum-grows, sum-same, code-by, cube-among, fit-codes}
 
 -- d² grows with each of the three code differences.
 pub distance-grows : (a b c d : Colour)

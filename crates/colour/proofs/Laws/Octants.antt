@@ -1,17 +1,17 @@
 -- Octants (document 01, "Colours and octants"): where they lie, that a child's bits are halves, that the eight children of an octant share
 -- out its colours, and that each colour lies in one octant of each side.
 use Prim.Native.Nat.{ℕ, zero, suc, _+_, _-_, _*_, _/_, _%_, _^_, _≤_, _<_}
-use mathlib.Core.Bool.{Bool, true, false, _&&_}
+use mathlib.Core.Bool.{true, _&&_}
 use mathlib.Core.Path.{_≡_, refl, sym, ap, ap₂, _∙_}
 use mathlib.Core.Logic.{_↔_}
-use native.Mathlib.Nat.{mul-add, add-mul, two-pow-succ, div-add-mod', mul-mod-left, mul-le-mul-right, one-mul, zero-add, div-eq-of-lt-le, div-mul-le-self, lt-div-mul-add, le-div-iff-mul-le, div-lt-iff-lt-mul, mod-lt}
+use native.Mathlib.Nat.{mul-add, add-mul, two-pow-succ, div-add-mod', mul-mod-left, mul-le-mul-right, zero-add, div-eq-of-lt-le, div-mul-le-self, lt-div-mul-add, le-div-iff-mul-le, div-lt-iff-lt-mul}
 use native.Mathlib.Omega.{arith}
-use lib.Dec.{leb, ltb, leb·zero, leb·suc-suc}
+use lib.Dec.{leb·zero, leb·suc-suc}
 use lib.Pow.{pow-pos}
 use Rattle.colour.specs.declared.Colour.{Colour}
-use Rattle.colour.specs.Colour.{Channel, codeIn, colourBy, each, sumOf, isCode, codesFit, black}
+use Rattle.colour.specs.Colour.{Channel, codeIn, sumOf, isCode, codesFit, black}
 use Rattle.colour.specs.Octant.{depths, cubeHolds, weight, bitAt, childNumber, children, childLow, Octant, root, child}
-use Rattle.colour.proofs.Laws.Channels.{Among, each-every, each-same, code-by, same-codes, cube-among, fit-codes}
+use Rattle.colour.proofs.Laws.Channels.{Among, each-same, code-by, same-codes, cube-among, fit-codes}
 
 -- q pieces of twice the side p, and b of the side p.
 pieces : (p q b : ℕ) → q * (p + p) + b * p ≡ (q + q + b) * p
