@@ -3,3 +3,4 @@ pub mod Channels
 pub mod Octants
 pub mod Keys
 pub mod Extremes
+pub mod Cubes

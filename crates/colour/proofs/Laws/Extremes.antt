@@ -1,7 +1,7 @@
 -- Closest and farthest colours of a cube, and how a cube lies to a ball or a box (document 01, "Picks").
 use Prim.Native.Nat.{ℕ, _-_, _*_, max, _≤_, _<_}
 use mathlib.Core.Bool.{Bool, true, false, _&&_}
-use mathlib.Core.Path.{_≡_, refl, ap}
+use mathlib.Core.Path.{_≡_, refl, sym, ap, _∙_}
 use mathlib.Core.Logic.{_↔_}
 use native.Mathlib.Nat.{add-comm, mul-le-mul, lt-of-le-of-lt}
 use native.Mathlib.Omega.{arith}
@@ -130,22 +130,35 @@ unfoldable pub proper : Region → Bool
 proper (Ball c r) = true
 proper (Box lo hi) = ordered lo hi
 
+-- An octant that holds a colour of the ball or box overlaps it.
+pub some-overlaps : (g : Region) (s : ℕ) (low : Colour) → 1 ≤ s → (x : Colour) → cubeHolds s low x ≡ true → holds g x ≡ true → overlaps g s low ≡ true
+unfolding overlaps holds lastCode
+some-overlaps (Ball c r) s low p x i e = lt-ltb _ _ (lt-of-le-of-lt (closest-colour c s low p .1 x i) (ltb-true _ _ e))
+some-overlaps (Box lo hi) s low p x i e = box-overlaps lo hi s low .1 (λ h. omega (arith, cube-among s low x .0 i h, box-holds lo hi x .0 e h))
+
 -- "An octant overlaps a ball when its closest colour to the centre has d² < r². For a box: some colour in it." In both, it overlaps exactly
 -- when some colour lies in the octant and in the ball or box.
 pub overlaps-some : (g : Region) (s : ℕ) (low : Colour) → 1 ≤ s → proper g ≡ true
     → (overlaps g s low ≡ true) ↔ ((x : Colour) × (cubeHolds s low x ≡ true) × (holds g x ≡ true))
 unfolding overlaps holds proper lastCode
 overlaps-some (Ball c r) s low p o =
-    let t = closest-colour c s low p in
-    (λ e. (closest c s low, t .0, e), λ e. lt-ltb _ _ (lt-of-le-of-lt (t .1 (e .0) (e .1)) (ltb-true _ _ (e .2))))
+    (λ e. (closest c s low, closest-colour c s low p .0, e), λ e. some-overlaps (Ball c r) s low p (e .0) (e .1) (e .2))
 overlaps-some (Box lo hi) s low p o = (
   λ e. let x : Colour = colourBy (λ h. max (codeIn h lo) (codeIn h low)) in (
     x,
     cube-among s low x .1 (λ h. rw code-by (omega (arith, box-overlaps lo hi s low .0 e h))),
     box-holds lo hi x .1 (λ h. rw code-by (omega (arith, box-overlaps lo hi s low .0 e h, box-ordered lo hi o h))),
   ),
-  λ e. box-overlaps lo hi s low .1 (λ h. omega (arith, cube-among s low (e .0) .0 (e .1) h, box-holds lo hi (e .0) .0 (e .2) h)),
+  λ e. some-overlaps (Box lo hi) s low p (e .0) (e .1) (e .2),
 )
+
+-- So none of the colours of an octant that does not overlap is in the ball or box.
+pub misses-all : (g : Region) (s : ℕ) (low : Colour) → 1 ≤ s → overlaps g s low ≡ false → (x : Colour) → cubeHolds s low x ≡ true → holds g x ≡ false
+misses-all g s low p e x i = go (holds g x) refl
+  where
+    go : (b : Bool) → holds g x ≡ b → b ≡ false
+    go true f = sym (some-overlaps g s low p x i f) ∙ e
+    go false f = refl
 
 -- "And is inside when its farthest has. For a box: all colours in it." In both, it is inside exactly when the ball or box holds all its colours.
 pub inside-all : (g : Region) (s : ℕ) (low : Colour) → 1 ≤ s
