@@ -1,14 +1,14 @@
 -- The cubes that stand for octants in the code (document 01, "Colours and octants"): their sides, and that the root and the children are octants.
-use Prim.Native.Nat.{ℕ, zero, suc, _+_, _-_, _*_, _^_, _≤_, _<_}
+use Prim.Native.Nat.{ℕ, suc, _+_, _-_, _^_, _≤_, _<_}
 use mathlib.Core.Path.{_≡_, refl, ap, _∙_}
 use native.Mathlib.Nat.{two-pow-succ}
 use native.Mathlib.Omega.{arith}
 use lib.Pow.{pow-pos}
 use Rattle.colour.specs.declared.Cube.{Cube}
-use Rattle.colour.specs.Octant.{depths, sideAt, children, childLow, Octant, root, child, childCube, rootCube, Within}
+use Rattle.colour.specs.Octant.{depths, sideAt, children, Octant, root, child, childCube, rootCube, Within}
 use Rattle.colour.proofs.Laws.Octants.{octant-lies}
 
--- "The root octant is all colours, side 65,536, depth 0"; the last depth has side 1; no side is 0.
+-- "The sides at depths 0 to 16": the root's is 65,536, the last is 1, none is 0.
 pub side-root : sideAt 0 ≡ 65536
 unfolding sideAt depths
 side-root = refl
@@ -34,6 +34,7 @@ pub record IsOctant (c : Cube) : Type 0 where
   pub depth : c .depth ≤ depths
   pub octant : Octant (depths - c .depth) (c .low)
 
+-- The root's cube is one, and so is each child's of an octant of side over 1.
 pub root-cube : IsOctant rootCube
 unfolding rootCube depths
 root-cube = record { depth = omega arith; octant = root }

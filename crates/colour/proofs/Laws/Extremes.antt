@@ -10,7 +10,7 @@ use borrow.Author.Tests.{ltb-true, leb-true, leb-false, lt-ltb, le-leb}
 use Rattle.colour.specs.declared.Colour.{Colour}
 use Rattle.colour.specs.declared.Region.{Region}
 use Rattle.colour.specs.declared.Region.the-variants.{Ball, Box}
-use Rattle.colour.specs.Colour.{Channel, codeIn, colourBy, each, sumOf, codesFit, apart, distance}
+use Rattle.colour.specs.Colour.{Channel, codeIn, colourBy, each, sumOf, codesFit, black, apart, distance}
 use Rattle.colour.specs.Octant.{cubeHolds, lastCode}
 use Rattle.colour.specs.Region.{closestCode, farthestCode, closest, farthest, holds, overlaps, inside}
 use Rattle.colour.specs.Query.{ordered}
@@ -36,13 +36,18 @@ distance-self a = sum-same _ (λ h. 0) (λ h. ap (λ (n : ℕ). n * n) (apart-se
     apart-self : (x : ℕ) → apart x x ≡ 0
     apart-self x = omega arith
 
--- "d² reaches 12,884,508,675", and no more, for colours in range.
+-- "d² reaches 12,884,508,675": it is no more for colours in range.
 pub distance-bound : (a b : Colour) → codesFit a ≡ true → codesFit b ≡ true → distance a b ≤ 12884508675
 unfolding distance apart sumOf
 distance-bound a b fa fb = sum-grows _ (λ h. 65535 * 65535) (λ h. mul-le-mul (near h) (near h))
   where
     near : (h : Channel) → apart (codeIn h a) (codeIn h b) ≤ 65535
     near h = omega (arith, fit-codes a .0 fa h, fit-codes b .0 fb h)
+
+-- It does reach that, from black to white.
+pub distance-reached : distance black (colourBy (λ h. 65535)) ≡ 12884508675
+unfolding distance apart sumOf black colourBy codeIn
+distance-reached = refl
 
 -- A code r of a stretch of s codes from low such that no code y of the stretch is closer to x; and one such that none is farther.
 pub record Closest (s low x r : ℕ) : Type 0 where
@@ -53,6 +58,7 @@ pub record Farthest (s low x r : ℕ) : Type 0 where
   pub among : Among s low r
   pub extreme : (y : ℕ) → Among s low y → apart x y ≤ apart x r
 
+-- The closest code of a channel is such a code.
 pub closest-code : (s low x : ℕ) → 1 ≤ s → Closest s low x (closestCode low (lastCode s low) x)
 unfolding closestCode lastCode apart
 closest-code s low x p = go (leb x low) refl (leb (lastCode s low) x) refl
@@ -69,6 +75,7 @@ ends : (x first last y : ℕ) → first ≤ y → y ≤ last
 unfolding apart
 ends x first last y a b = omega arith
 
+-- The farthest code of a channel is such a code.
 pub farthest-code : (s low x : ℕ) → 1 ≤ s → Farthest s low x (farthestCode low (lastCode s low) x)
 unfolding farthestCode lastCode
 farthest-code s low x p = go (leb (apart x low) (apart x (lastCode s low))) refl

@@ -25,6 +25,7 @@ above j low b m =
 
 -- "Half-open: each code falls in the lower or upper half." Of 2 ^ suc j codes from low, those with the bit b are the 2 ^ j from low + b * 2 ^ j.
 module _ (j low x : ℕ) (m : low % 2 ^ suc j ≡ 0) where
+  -- A code of the stretch lies in the half of its bit.
   pub bit-half : Among (2 ^ suc j) low x → Among (2 ^ j) (low + bitAt j x * 2 ^ j) x
   unfolding bitAt
   bit-half i =
@@ -35,6 +36,7 @@ module _ (j low x : ℕ) (m : low % 2 ^ suc j ≡ 0) where
       let f : low + x / 2 ^ j % 2 * 2 ^ j ≡ x / 2 ^ j * 2 ^ j = above j low (x / 2 ^ j % 2) m ∙ ap (λ (n : ℕ). n * 2 ^ j) e in
       record { least = omega (arith, div-mul-le-self x (2 ^ j)); below = omega (arith, lt-div-mul-add {a = x} (pow-pos j)) }
 
+  -- A code of the half b lies in the stretch, and its bit is b.
   pub half-bit : (b : ℕ) → b < 2 → Among (2 ^ j) (low + b * 2 ^ j) x → (Among (2 ^ suc j) low x) × (bitAt j x ≡ b)
   unfolding bitAt
   half-bit b h i =
@@ -65,10 +67,12 @@ child-code : (s k : ℕ) (low : Colour) (h : Channel) → codeIn h (childLow s k
 unfolding childLow
 child-code s k low h = code-by (λ g. codeIn g low + k / weight g % 2 * s) h
 
+-- The root's least codes are 0.
 black-code : (h : Channel) → codeIn h black ≡ 0
 unfolding black
 black-code h = code-by (λ g. 0) h
 
+-- Every octant lies so. (The other way round is lies-octant, below.)
 pub octant-lies : {j : ℕ} {low : Colour} → Octant j low → Lies j low
 unfolding depths
 octant-lies root = record { side = omega arith; multiple = λ h. rw black-code; fits = λ h. rw black-code (omega arith) }
@@ -80,13 +84,14 @@ octant-lies (child {j} {low} k b o) =
       fits = λ h. rw child-code (omega (arith, l .fits h, two-pow-succ j, bit-piece (k / weight h) (2 ^ j)));
     }
 
--- "Child number = red bit + 2 × green bit + 4 × blue bit": its binary digits are the channels' bits, and it is one of 0 to 7.
+-- "Child number = red bit + 2 × green bit + 4 × blue bit": its binary digits are the channels' bits.
 pub child-bit : (j : ℕ) (c : Colour) (h : Channel) → childNumber j c / weight h % 2 ≡ bitAt j (codeIn h c)
 unfolding childNumber sumOf weight bitAt
 child-bit j c Channel.Red = omega arith
 child-bit j c Channel.Green = omega arith
 child-bit j c Channel.Blue = omega arith
 
+-- The children are 0 to 7.
 pub child-small : (j : ℕ) (c : Colour) → childNumber j c < children
 unfolding childNumber sumOf weight bitAt children
 child-small j c = omega arith
@@ -125,7 +130,7 @@ pub record In (j : ℕ) (low c : Colour) : Type 0 where
   pub octant : Octant j low
   pub held : cubeHolds (2 ^ j) low c ≡ true
 
--- Every colour in range lies in an octant of each side: found from the root down, d sides below it.
+-- A colour in range is followed from the root down to the octant that holds it, d sides below.
 octant-below : (c : Colour) → codesFit c ≡ true → (d j : ℕ) → d + j ≡ 16 → (low : Colour) × In j low c
 unfolding depths
 octant-below c f zero j e = (black, rw (sym (zero-add j) ∙ e) (record { octant = root; held = root-holds c ∙ f }))
@@ -134,6 +139,7 @@ octant-below c f (suc d) j e =
     let t = child-of (i .octant) c (i .held) in
     (childLow (2 ^ j) (childNumber j c) low, record { octant = child (childNumber j c) (t .0) (i .octant); held = t .1 })
 
+-- So for each j up to 16 there is an octant of side 2 ^ j that holds the colour.
 pub octant-of : (c : Colour) → codesFit c ≡ true → (j : ℕ) → j ≤ 16 → (low : Colour) × In j low c
 octant-of c f j h = octant-below c f (16 - j) j (omega arith)
 
