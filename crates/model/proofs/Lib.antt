@@ -1,0 +1,5 @@
+-- Laws on the definitions, and the whole-day theorem.
+pub mod Lists
+pub mod Tree
+pub mod Tables
+pub mod Machine

@@ -1,0 +1,181 @@
+-- Each call keeps the machine within its tables (document 01, "The bin" and "Questions").
+use Prim.Native.Nat.{ℕ, suc, _≤_, _<_}
+use mathlib.Core.Bool.{Bool, true, false, not, _&&_, true≢false}
+use mathlib.Core.List.{List, [], _∷_, _++_}
+use mathlib.Core.Option.{Option, none, some}
+use mathlib.Core.Path.{_≡_, refl, sym}
+use lib.ListN.{length, length-append}
+use lib.Dec.{eqb, ltb, leb}
+use native.Mathlib.Omega.{arith}
+use borrow.Author.Tests.{ltb-true, leb-true, eqb-true, eqb-false, ne-eqb, not-true}
+use Rattle.colour.specs.declared.Sample.{Sample}
+use Rattle.colour.specs.Colour.{codesFit}
+use Rattle.colour.specs.Octant.{depths}
+use Rattle.colour.specs.Question.{Question, asks, firstNo}
+use Rattle.sheet.specs.Line.{Line}
+use Rattle.sheet.specs.Sheet.{linesOf}
+use Rattle.sheet.proofs.Ranges.{Ranged, AllRanged, SheetRanged, sheet-ranged}
+use Rattle.model.specs.Lists.{keep}
+use Rattle.model.specs.SampleSet.{Settings, SampleSet, placedFrom, placed, octantsOf, octants}
+use Rattle.model.specs.Layout.{current, sampleHeader, octantHeader, sampleRows, octantRows}
+use Rattle.model.specs.Machine.{Machine, Call, Clear, Load, Add, Remove, Ask, Outcome, withSamples, cleared, added, removed, hasTag, clearQuestions, roomQuestions, addQuestions, removeQuestions, unlessRefused, loadLines, load, step}
+use Rattle.model.specs.Sound.{Valid, distinct, inRange}
+use Rattle.model.proofs.Lists.{and-left, and-right, keep-length}
+use Rattle.model.proofs.Tree.Octants.{no-octants, fewer-octants, keep-fewer}
+
+-- Of a list without a tag: its first has another, its rest is without it.
+first-tag : (t : ℕ) (x : Sample) (xs : List Sample) → hasTag t (x ∷ xs) ≡ false → (eqb (x .tag) t ≡ false) × (hasTag t xs ≡ false)
+unfolding hasTag
+first-tag t x xs h = go (eqb (x .tag) t) refl
+  where
+    go : (r : Bool) → eqb (x .tag) t ≡ r → (eqb (x .tag) t ≡ false) × (hasTag t xs ≡ false)
+    go true e = absurd (true≢false (rw (e, hasTag) at h))
+    go false e = (e, rw (e, hasTag) at h)
+
+-- What was new, distinct or in range stays so where samples are left out.
+module _ (p : Sample → Bool) where
+  keep-tag : (t : ℕ) (xs : List Sample) → hasTag t xs ≡ false → hasTag t (keep p xs) ≡ false
+  unfolding keep hasTag
+  keep-tag t [] h = refl
+  keep-tag t (x ∷ xs) h = go (p x) refl (keep-tag t xs (first-tag t x xs h .1))
+    where
+      go : (r : Bool) → p x ≡ r → hasTag t (keep p xs) ≡ false → hasTag t (keep p (x ∷ xs)) ≡ false
+      go true e i = rw (e, keep) (rw (first-tag t x xs h .0, hasTag) i)
+      go false e i = rw (e, keep) i
+
+  keep-distinct : (xs : List Sample) → distinct xs → distinct (keep p xs)
+  unfolding keep distinct
+  keep-distinct [] h = tt
+  keep-distinct (x ∷ xs) h = go (p x) refl (keep-distinct xs (h .1))
+    where
+      go : (r : Bool) → p x ≡ r → distinct (keep p xs) → distinct (keep p (x ∷ xs))
+      go true e i = rw (e, keep) (keep-tag (x .tag) xs (h .0), i)
+      go false e i = rw (e, keep) i
+
+  keep-range : (xs : List Sample) → inRange xs → inRange (keep p xs)
+  unfolding keep inRange
+  keep-range [] h = tt
+  keep-range (x ∷ xs) h = go (p x) refl (keep-range xs (h .1))
+    where
+      go : (r : Bool) → p x ≡ r → inRange (keep p xs) → inRange (keep p (x ∷ xs))
+      go true e i = rw (e, keep) (h .0, i)
+      go false e i = rw (e, keep) i
+
+-- One more at the end.
+snoc-tag : (t : ℕ) (s : Sample) (xs : List Sample) → hasTag t xs ≡ false → eqb (s .tag) t ≡ false → hasTag t (xs ++ (s ∷ [])) ≡ false
+unfolding hasTag
+snoc-tag t s [] h e = rw (e, hasTag)
+snoc-tag t s (x ∷ xs) h e = rw (first-tag t x xs h .0, hasTag) (snoc-tag t s xs (first-tag t x xs h .1) e)
+
+snoc-distinct : (s : Sample) (xs : List Sample) → distinct xs → hasTag (s .tag) xs ≡ false → distinct (xs ++ (s ∷ []))
+unfolding distinct hasTag
+snoc-distinct s [] d h = (refl, tt)
+snoc-distinct s (x ∷ xs) d h =
+    let other : eqb (s .tag) (x .tag) ≡ false = ne-eqb (s .tag) (x .tag) (λ e. eqb-false (x .tag) (s .tag) (first-tag (s .tag) x xs h .0) (sym e)) in (
+      snoc-tag (x .tag) s xs (d .0) other,
+      snoc-distinct s xs (d .1) (first-tag (s .tag) x xs h .1),
+    )
+
+snoc-range : (s : Sample) (xs : List Sample) → inRange xs → codesFit (s .colour) ≡ true → inRange (xs ++ (s ∷ []))
+unfolding inRange
+snoc-range s [] h c = (c, tt)
+snoc-range s (x ∷ xs) h c = (h .0, snoc-range s xs (h .1) c)
+
+-- Where the number is 0, each question was answered with yes.
+pub asked : (n : ℕ) (yes : Bool) (rest : List Question) → (n ≡ 0 → ⊥) → firstNo (asks n yes ∷ rest) ≡ 0 → (yes ≡ true) × (firstNo rest ≡ 0)
+unfolding firstNo
+asked n true rest z h = (refl, h)
+asked n false rest z h = absurd (z h)
+
+-- A machine whose samples changed, within the same lengths.
+changed-valid : (m : Machine) (xs : List Sample) → Valid current m → distinct xs → inRange xs → length xs ≤ sampleRows current (m .sampleLength)
+    → octants (withSamples m xs .set) ≤ octantRows current (m .octantLength) → Valid current (withSamples m xs)
+unfolding withSamples
+changed-valid m xs v d r n o =
+    record {
+      sample-words = v .sample-words;
+      octant-words = v .octant-words;
+      bucket-low = v .bucket-low;
+      bucket-high = v .bucket-high;
+      tags-distinct = d;
+      in-range = r;
+      rows-fit = n;
+      octants-fit = o;
+    }
+
+added-valid : (m : Machine) (s : Sample) → Valid current m → codesFit (s .colour) ≡ true → firstNo (roomQuestions m s) ≡ 0 → Valid current (added m s)
+unfolding roomQuestions added
+added-valid m s v c h =
+    let xs : List Sample = m .set .samples in
+    let q5 = asked 5 (not (hasTag (s .tag) xs)) _ (λ z. omega arith) h in
+    let q6 = asked 6 (ltb (length xs) (sampleRows current (m .sampleLength))) _ (λ z. omega arith) (q5 .1) in
+    let q7 = asked 7 (leb (octants (added m s .set)) (octantRows current (m .octantLength))) _ (λ z. omega arith) (q6 .1) in
+    changed-valid m (xs ++ (s ∷ [])) v (snoc-distinct s xs (v .tags-distinct) (not-true _ (q5 .0))) (snoc-range s xs (v .in-range) c)
+    (simp length-append (omega (arith, ltb-true (length xs) (sampleRows current (m .sampleLength)) (q6 .0)))) (leb-true _ _ (q7 .0))
+
+add-valid : (m : Machine) (s : Sample) → Valid current m → firstNo (addQuestions m s) ≡ 0 → Valid current (added m s)
+unfolding addQuestions
+add-valid m s v e =
+    let q4 = asked 4 (codesFit (s .colour)) (roomQuestions m s) (λ z. omega arith) e in
+    added-valid m s v (q4 .0) (q4 .1)
+
+removed-valid : (m : Machine) (t : ℕ) → Valid current m → Valid current (removed m t)
+unfolding removed withSamples octants placed
+removed-valid m t v =
+    let p : Sample → Bool = λ s. not (eqb (s .tag) t) in
+    let xs : List Sample = m .set .samples in
+    changed-valid m (keep p xs) v (keep-distinct p xs (v .tags-distinct)) (keep-range p xs (v .in-range))
+    (omega (arith, keep-length p xs, v .rows-fit))
+    (omega (arith, fewer-octants (m .set .settings .bucket) depths (keep-fewer p 0 0 xs), v .octants-fit))
+
+pub cleared-valid : (b : Settings) (n k : ℕ) → sampleHeader current ≤ n → octantHeader current ≤ k → firstNo (clearQuestions b) ≡ 0
+    → Valid current (cleared b n k)
+unfolding clearQuestions distinct inRange octants placed placedFrom cleared
+cleared-valid b n k h g q =
+    let q3 = asked 3 (leb 1 (b .bucket) && leb (b .bucket) 256) [] (λ z. omega arith) q in
+    record {
+      sample-words = h;
+      octant-words = g;
+      bucket-low = leb-true 1 (b .bucket) (and-left _ _ (q3 .0));
+      bucket-high = leb-true (b .bucket) 256 (and-right (leb 1 (b .bucket)) _ (q3 .0));
+      tags-distinct = tt;
+      in-range = tt;
+      rows-fit = omega arith;
+      octants-fit = omega (arith, no-octants (b .bucket) depths);
+    }
+
+unless-valid : (n : ℕ) (m done : Machine) → Valid current m → (n ≡ 0 → Valid current done) → Valid current (unlessRefused n m done .next)
+unfolding unlessRefused
+unless-valid n m done v h = go (eqb n 0) refl
+  where
+    go : (r : Bool) → eqb n 0 ≡ r → Valid current (unlessRefused n m done .next)
+    go true e = rw (e, unlessRefused) (h (eqb-true n 0 e))
+    go false e = rw (e, unlessRefused) v
+
+lines-valid : (lines : List (Option Line)) (m : Machine) (k : ℕ) → Valid current m → AllRanged lines → Valid current (loadLines m k lines .next)
+unfolding loadLines AllRanged Ranged
+lines-valid [] m k v f = v
+lines-valid (none ∷ rest) m k v f = v
+lines-valid (some l ∷ rest) m k v f =
+    go (eqb (firstNo (roomQuestions m (l .sample))) 0) refl (λ w. lines-valid rest (added m (l .sample)) (suc k) w (f .1))
+  where
+    go : (r : Bool) → eqb (firstNo (roomQuestions m (l .sample))) 0 ≡ r
+        → (Valid current (added m (l .sample)) → Valid current (loadLines (added m (l .sample)) (suc k) rest .next))
+        → Valid current (loadLines m k (some l ∷ rest) .next)
+    go true e h = rw (e, loadLines) (h (added-valid m (l .sample) v (f .0 .codes) (eqb-true _ 0 e)))
+    go false e h = rw (e, loadLines) v
+
+load-valid : (m : Machine) (lines : Option (List (Option Line))) → Valid current m → SheetRanged lines → Valid current (load m lines .next)
+unfolding load SheetRanged
+load-valid m none v f = v
+load-valid m (some lines) v f = lines-valid lines m 0 v f
+
+pub step-valid : (m : Machine) (c : Call) → Valid current m → Valid current (step m c .next)
+unfolding step
+step-valid m (Clear b) v =
+    unless-valid (firstNo (clearQuestions b)) m (cleared b (m .sampleLength) (m .octantLength)) v
+    (λ e. cleared-valid b (m .sampleLength) (m .octantLength) (v .sample-words) (v .octant-words) e)
+step-valid m (Load s) v = load-valid m (linesOf s) v (sheet-ranged s)
+step-valid m (Add s) v = unless-valid (firstNo (addQuestions m s)) m (added m s) v (λ e. add-valid m s v e)
+step-valid m (Remove t) v = unless-valid (firstNo (removeQuestions m t)) m (removed m t) v (λ e. removed-valid m t v)
+step-valid m (Ask q l) v = v

@@ -1,0 +1,5 @@
+-- Laws of the tree of octants: its order, its size, what a query counts on it, and the nearest sample.
+pub mod Order
+pub mod Octants
+pub mod Counts
+pub mod Nearest

@@ -1,0 +1,2 @@
+-- Laws on the definitions of sheets.
+pub mod Ranges

@@ -1,0 +1,70 @@
+-- A good line has its tag and its codes in range (document 01, "Sheets").
+use Prim.Native.Nat.{ℕ, zero, suc, _<_, _^_}
+use mathlib.Core.Bool.{Bool, true, false, _&&_, true≢false}
+use mathlib.Core.List.{List, [], _∷_}
+use mathlib.Core.Option.{Option, none, some}
+use mathlib.Core.Path.{_≡_, refl, sym}
+use lib.Dec.{ltb}
+use borrow.Author.Tests.{ltb-true}
+use Rattle.colour.specs.declared.Colour.{Colour}
+use Rattle.colour.specs.Colour.{codesFit}
+use Rattle.sheet.specs.Line.{Line, lineFrom, lineFormed, lineOf}
+use Rattle.sheet.specs.Sheet.{linePart, linesFrom, linesBy, lineCount, linesOf}
+
+-- What holds of a good line, of every good line of a list, and of a sheet's lines.
+pub record InRange (l : Line) : Type 0 where
+  pub tag : l .sample .tag < 2 ^ 32
+  pub codes : codesFit (l .sample .colour) ≡ true
+
+unfoldable pub Ranged : Option Line → Type 0
+Ranged none = Unit {0}
+Ranged (some l) = InRange l
+
+unfoldable pub AllRanged : List (Option Line) → Type 0
+AllRanged [] = Unit {0}
+AllRanged (l ∷ rest) = Ranged l × AllRanged rest
+
+unfoldable pub SheetRanged : Option (List (Option Line)) → Type 0
+SheetRanged none = Unit {0}
+SheetRanged (some lines) = AllRanged lines
+
+both : (a b : Bool) → (a && b) ≡ true → (a ≡ true) × (b ≡ true)
+both true b h = (refl, h)
+both false b h = absurd (true≢false (sym h))
+
+from-ranged : (t r g b : Option ℕ) (n : ℕ) → Ranged (lineFrom t r g b n)
+unfolding Ranged lineFrom
+from-ranged none r g b n = tt
+from-ranged (some t) none g b n = tt
+from-ranged (some t) (some r) none b n = tt
+from-ranged (some t) (some r) (some g) none n = tt
+from-ranged (some t) (some r) (some g) (some b) n = go (ltb t (2 ^ 32) && codesFit (record { red = r; green = g; blue = b })) refl
+  where
+    go : (q : Bool) → (ltb t (2 ^ 32) && codesFit (record { red = r; green = g; blue = b })) ≡ q
+        → Ranged (lineFrom (some t) (some r) (some g) (some b) n)
+    go true e =
+        let h = both (ltb t (2 ^ 32)) _ e in
+        rw (e, lineFrom) (record { tag = ltb-true t (2 ^ 32) (h .0); codes = h .1 })
+    go false e = rw (e, lineFrom) tt
+
+pub line-ranged : (s : List ℕ) → Ranged (lineOf s)
+unfolding Ranged lineOf
+line-ranged s = go (lineFormed s) refl
+  where
+    go : (q : Bool) → lineFormed s ≡ q → Ranged (lineOf s)
+    go true e = rw (e, lineOf) (from-ranged _ _ _ _ _)
+    go false e = rw (e, lineOf) tt
+
+lines-ranged : (s : List ℕ) (k n : ℕ) → AllRanged (linesFrom s k n)
+unfolding AllRanged linesFrom
+lines-ranged s k zero = tt
+lines-ranged s k (suc n) = (line-ranged (linePart s k), lines-ranged s (suc k) n)
+
+by-ranged : (n : Option ℕ) (s : List ℕ) → SheetRanged (linesBy n s)
+unfolding SheetRanged linesBy
+by-ranged none s = tt
+by-ranged (some n) s = lines-ranged s 0 n
+
+pub sheet-ranged : (s : List ℕ) → SheetRanged (linesOf s)
+unfolding linesOf
+sheet-ranged s = by-ranged (lineCount s) s
