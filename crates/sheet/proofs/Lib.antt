@@ -1,2 +1,3 @@
 -- Laws on the definitions of sheets.
+pub mod Numbers
 pub mod Ranges
