@@ -53,6 +53,15 @@ unfoldable pub answerIf : Bool → Float → Code
 answerIf true v = C.Is (codeOf v)
 answerIf false v = C.Refused
 
+-- The codes of a panel colour, and a colour as floats, as the code's answers have them.
+unfoldable pub codesIf : Bool → PanelColour → Codes
+codesIf true p = Cs.Are (codesOf p)
+codesIf false p = Cs.Refused
+
+unfoldable pub floatsIf : Bool → Colour → Floats
+floatsIf true c = Fs.Are (shownColour c)
+floatsIf false c = Fs.Refused
+
 -- Floats to codes: all that the call gives back. Question 9; where it says no, all else is 0.
 pub record CodesAnswer : Type 0 where
   pub number : ℕ

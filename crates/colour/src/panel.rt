@@ -2,6 +2,11 @@
 use crate::Colour;
 use crate::PanelColour;
 use crate::Region;
+ghost use mathlib.Core.Path.{_≡_};
+ghost use Prim.Native.Nat.{_≤_, _<_, _^_};
+ghost use Rattle.colour.specs.Colour.{codesFit};
+ghost use Rattle.colour.specs.Panel.{below, answerIf, channelGood, radiusGood, panelGood};
+ghost use Rattle.colour.specs.Panel.{codesIf, codesAnswer, floatsToCodes, Shown, floatsIf, floatsAnswer, codesToFloats};
 
 // A float's code, or that it is out of range.
 pub enum Code {
@@ -26,4 +31,99 @@ pub enum Asked {
     List(Region),
     Nearest(Colour, u32),
     Refused,
+}
+
+// The code of v, which has to be below 2 to the power twos: by sign, exponent and fraction out of the bits.
+// A NaN has no bits of its own, so it is refused first. Below 2^-16 the code is 0; from there on it is the
+// significand without the digits that stand for less than 2^-16.
+fn code_of(v: f32, twos: u32) -> Code
+    requires { ⌜ twos ≤ 1 ⌝ }
+    ensures { λ r. ⌜ r ≡ answerIf (below (2 ^ twos) v) v ⌝ }
+{
+    if v != v {
+        return Code::Refused;
+    }
+    let bits = f32::to_bits(v);
+    if bits == 0x8000_0000 {
+        return Code::Is(0);
+    }
+    let sign = bits >> 31;
+    if sign == 1 {
+        return Code::Refused;
+    }
+    let exponent = bits >> 23;
+    let fraction = bits & 0x7f_ffff;
+    if exponent >= 127 + twos {
+        return Code::Refused;
+    }
+    if exponent < 111 {
+        return Code::Is(0);
+    }
+    Code::Is((0x80_0000 + fraction) >> (134 - exponent))
+}
+
+// A channel's code: 0 ≤ v < 1.
+fn channel_code(v: f32) -> Code
+    ensures { λ r. ⌜ r ≡ answerIf (channelGood v) v ⌝ }
+{
+    code_of(v, 0)
+}
+
+// A radius in codes: 0 ≤ v < 2.
+fn radius_code(v: f32) -> Code
+    ensures { λ r. ⌜ r ≡ answerIf (radiusGood v) v ⌝ }
+{
+    code_of(v, 1)
+}
+
+// Floats to codes: an exported call.
+pub fn codes_of(p: PanelColour) -> Codes
+    ensures { λ r. ⌜ (codesAnswer r ≡ floatsToCodes p) × (r ≡ codesIf (panelGood p) p) ⌝ }
+{
+    let Code::Is(red) = channel_code(p.red) else {
+        return Codes::Refused;
+    };
+    let Code::Is(green) = channel_code(p.green) else {
+        return Codes::Refused;
+    };
+    let Code::Is(blue) = channel_code(p.blue) else {
+        return Codes::Refused;
+    };
+    Codes::Are(Colour { red, green, blue })
+}
+
+// A code as a float: one division, which is exact.
+fn show(code: u32) -> f32
+    requires { ⌜ code < 65536 ⌝ }
+    ensures { λ r. ⌜ Shown code r ⌝ }
+{
+    code as f32 / 65536.0
+}
+
+// Whether a colour's codes are codes: question 4.
+pub fn codes_fit(c: Colour) -> bool
+    ensures { λ r. ⌜ r ≡ codesFit c ⌝ }
+{
+    if c.red > 65535 {
+        return false;
+    }
+    if c.green > 65535 {
+        return false;
+    }
+    c.blue <= 65535
+}
+
+// Codes to floats: an exported call.
+pub fn floats_of(c: Colour) -> Floats
+    ensures { λ r. ⌜ (floatsAnswer r ≡ codesToFloats c) × (r ≡ floatsIf (codesFit c) c) ⌝ }
+{
+    if codes_fit(c) {
+        Floats::Are(PanelColour {
+            red: show(c.red),
+            green: show(c.green),
+            blue: show(c.blue),
+        })
+    } else {
+        Floats::Refused
+    }
 }
