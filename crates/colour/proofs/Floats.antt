@@ -4,3 +4,4 @@ pub mod Fields
 pub mod Shown
 pub mod Channels
 pub mod Answers
+pub mod Queries

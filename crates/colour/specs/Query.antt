@@ -2,11 +2,15 @@
 use Prim.Native.Nat.{ℕ}
 use mathlib.Core.Bool.{Bool, true, false, _&&_}
 use lib.Dec.{leb}
+use lib.Ieee.{Float}
 use Rattle.colour.specs.declared.Colour.{Colour}
+use Rattle.colour.specs.declared.PanelColour.{PanelColour}
 use Rattle.colour.specs.declared.Query.{Query}
 use Rattle.colour.specs.declared.Query.the-variants as Q
 use Rattle.colour.specs.declared.Region.{Region}
 use Rattle.colour.specs.declared.Region.the-variants as R
+use Rattle.colour.specs.declared.panel.Sphere.{Sphere}
+use Rattle.colour.specs.declared.panel.Sphere.the-variants as S
 use Rattle.colour.specs.declared.panel.Asked.{Asked}
 use Rattle.colour.specs.declared.panel.Asked.the-variants as A
 use Rattle.colour.specs.Colour.{Channel, codeIn, each}
@@ -15,6 +19,11 @@ use Rattle.colour.specs.Panel.{panelGood, radiusGood, codesOf, codeOf}
 -- A box needs low ≤ high in each channel, as codes.
 unfoldable pub ordered : Colour → Colour → Bool
 ordered lo hi = each (λ h. leb (codeIn h lo) (codeIn h hi))
+
+-- A centre and a radius in codes, as the code's answer has them.
+unfoldable pub sphereIf : Bool → PanelColour → Float → Sphere
+sphereIf true c r = S.Is (codesOf c) (codeOf r)
+sphereIf false c r = S.Refused
 
 -- Question 9: as under Gestures?
 unfoldable pub queryGood : Query → Bool

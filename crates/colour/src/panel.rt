@@ -1,12 +1,15 @@
 // Panel floats to codes and back, and queries taken apart.
 use crate::Colour;
 use crate::PanelColour;
+use crate::Query;
 use crate::Region;
+ghost use mathlib.Core.Bool.{_&&_};
 ghost use mathlib.Core.Path.{_≡_};
 ghost use Prim.Native.Nat.{_≤_, _<_, _^_};
 ghost use Rattle.colour.specs.Colour.{codesFit};
 ghost use Rattle.colour.specs.Panel.{below, answerIf, channelGood, radiusGood, panelGood};
 ghost use Rattle.colour.specs.Panel.{codesIf, codesAnswer, floatsToCodes, Shown, floatsIf, floatsAnswer, codesToFloats};
+ghost use Rattle.colour.specs.Query.{ordered, sphereIf, askedOf};
 
 // A float's code, or that it is out of range.
 pub enum Code {
@@ -23,6 +26,12 @@ pub enum Codes {
 // A colour as panel floats, or the refusal by number 4.
 pub enum Floats {
     Are(PanelColour),
+    Refused,
+}
+
+// A centre and a radius in codes, or that one is out of range.
+pub enum Sphere {
+    Is(Colour, u32),
     Refused,
 }
 
@@ -100,17 +109,31 @@ fn show(code: u32) -> f32
     code as f32 / 65536.0
 }
 
-// Whether a colour's codes are codes: question 4.
+// Whether a colour is at most another in each channel.
+fn at_most(low: Colour, high: Colour) -> bool
+    ensures { λ r. ⌜ r ≡ ordered low high ⌝ }
+{
+    if low.red > high.red {
+        return false;
+    }
+    if low.green > high.green {
+        return false;
+    }
+    low.blue <= high.blue
+}
+
+// Whether a colour's words are codes: question 4.
 pub fn codes_fit(c: Colour) -> bool
     ensures { λ r. ⌜ r ≡ codesFit c ⌝ }
 {
-    if c.red > 65535 {
-        return false;
-    }
-    if c.green > 65535 {
-        return false;
-    }
-    c.blue <= 65535
+    at_most(
+        c,
+        Colour {
+            red: 65535,
+            green: 65535,
+            blue: 65535,
+        },
+    )
 }
 
 // Codes to floats: an exported call.
@@ -125,5 +148,52 @@ pub fn floats_of(c: Colour) -> Floats
         })
     } else {
         Floats::Refused
+    }
+}
+
+// A centre and a radius in codes.
+fn sphere_of(centre: PanelColour, radius: f32) -> Sphere
+    ensures { λ r. ⌜ r ≡ sphereIf (panelGood centre && radiusGood radius) centre radius ⌝ }
+{
+    let Codes::Are(c) = codes_of(centre) else {
+        return Sphere::Refused;
+    };
+    let Code::Is(r) = radius_code(radius) else {
+        return Sphere::Refused;
+    };
+    Sphere::Is(c, r)
+}
+
+// What a box asks.
+fn box_asked(low: PanelColour, high: PanelColour) -> Asked
+    ensures { λ r. ⌜ r ≡ askedOf (Query.Box low high) ⌝ }
+{
+    let Codes::Are(l) = codes_of(low) else {
+        return Asked::Refused;
+    };
+    let Codes::Are(h) = codes_of(high) else {
+        return Asked::Refused;
+    };
+    if at_most(l, h) {
+        Asked::List(Region::Box(l, h))
+    } else {
+        Asked::Refused
+    }
+}
+
+// The query taken apart: an exported call.
+pub fn asked_of(q: Query) -> Asked
+    ensures { λ r. ⌜ r ≡ askedOf q ⌝ }
+{
+    match q {
+        Query::Ball(centre, radius) => match sphere_of(centre, radius) {
+            Sphere::Is(c, r) => Asked::List(Region::Ball(c, r)),
+            Sphere::Refused => Asked::Refused,
+        },
+        Query::Box(low, high) => box_asked(low, high),
+        Query::Nearest(centre, radius) => match sphere_of(centre, radius) {
+            Sphere::Is(c, r) => Asked::Nearest(c, r),
+            Sphere::Refused => Asked::Refused,
+        },
     }
 }

@@ -1,9 +1,10 @@
 -- A test of each channel, by channel.
-use mathlib.Core.Path.{_≡_, refl}
+use mathlib.Core.Path.{_≡_, refl, sym}
 use mathlib.Core.Bool.{Bool, true, false, _&&_, and-false}
-use Prim.Native.Nat.{_<_}
+use Prim.Native.Nat.{ℕ, _≤_, _<_}
 use native.Mathlib.Omega.{arith}
-use borrow.Author.Tests.{leb-true}
+use borrow.Author.Tests.{leb-true, le-leb, lt-leb}
+use lib.Dec.{leb}
 use Rattle.colour.specs.declared.Colour.{Colour}
 use Rattle.colour.specs.Colour.{Channel, Red, Green, Blue, each, isCode, codeIn, codesFit}
 
@@ -31,6 +32,15 @@ unfolding each
 each-no f Red e = rw e
 each-no f Green e = rw (e, and-false (f Red))
 each-no f Blue e = rw (e, and-false (f Red && f Green))
+
+-- The tests in turn: one that says no settles it, and where two say yes the third does.
+module _ (f g : Channel → ℕ) where
+  pub turn-no : (h : Channel) → g h < f h → false ≡ each (λ h. leb (f h) (g h))
+  turn-no h e = sym (each-no (λ h. leb (f h) (g h)) h (lt-leb (f h) (g h) e))
+
+  pub turn-last : f Red ≤ g Red → f Green ≤ g Green → leb (f Blue) (g Blue) ≡ each (λ h. leb (f h) (g h))
+  unfolding each
+  turn-last r s = rw (le-leb (f Red) (g Red) r, le-leb (f Green) (g Green) s)
 
 pub fit-at : (c : Colour) → codesFit c ≡ true → (h : Channel) → codeIn h c < 65536
 unfolding codesFit isCode

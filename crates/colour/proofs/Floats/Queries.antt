@@ -1,0 +1,116 @@
+-- A query taken apart: from what its floats' answers tell to what it asks.
+use mathlib.Core.Path.{_≡_, refl, ap, _∙_}
+use mathlib.Core.Bool.{Bool, true, false, _&&_, and-false}
+use Prim.Native.Nat.{ℕ}
+use native.Mathlib.Omega.{arith}
+use lib.Ieee.{Float}
+use Rattle.colour.specs.declared.Colour.{Colour}
+use Rattle.colour.specs.declared.PanelColour.{PanelColour}
+use Rattle.colour.specs.declared.Query.{Query}
+use Rattle.colour.specs.declared.Query.the-variants as Q
+use Rattle.colour.specs.declared.Region.the-variants as R
+use Rattle.colour.specs.declared.panel.Code.the-variants as C
+use Rattle.colour.specs.declared.panel.Codes.the-variants as Cs
+use Rattle.colour.specs.declared.panel.Sphere.the-variants as S
+use Rattle.colour.specs.declared.panel.Asked.the-variants as A
+use Rattle.colour.specs.Panel.{panelGood, radiusGood, codesOf, codeOf, answerIf, codesIf}
+use Rattle.colour.specs.Query.{ordered, queryGood, inCodes, askedOf, askedNumber, sphereIf}
+use Rattle.colour.proofs.Floats.Answers.{code-told, code-refused, codes-told, codes-refused}
+
+-- A good query is answered in its codes, any other is refused.
+module _ (q : Query) where
+  pub asked-yes : queryGood q ≡ true → askedOf q ≡ inCodes q
+  unfolding askedOf
+  asked-yes e = rw (askedOf, e)
+
+  pub asked-no : queryGood q ≡ false → askedOf q ≡ A.Refused
+  unfolding askedOf
+  asked-no e = rw (askedOf, e)
+
+in-codes-number : (q : Query) → askedNumber (inCodes q) ≡ 0
+unfolding inCodes askedNumber
+in-codes-number (Q.Ball c r) = refl
+in-codes-number (Q.Box l h) = refl
+in-codes-number (Q.Nearest c r) = refl
+
+-- Its number is 0 exactly for a good query, else 9.
+pub asked-number : (q : Query) → askedNumber (askedOf q) ≡ elim (queryGood q) [ true ↦ 0 | false ↦ 9 ]
+unfolding askedNumber
+asked-number q = at (queryGood q) refl where
+  at : (b : Bool) → queryGood q ≡ b → askedNumber (askedOf q) ≡ elim (queryGood q) [ true ↦ 0 | false ↦ 9 ]
+  at true e = rw (e, asked-yes q e, in-codes-number q)
+  at false e = rw (e, asked-no q e)
+
+-- A centre and a radius.
+module _ (p : PanelColour) (v : Float) where
+  abbrev good : Bool
+  good = panelGood p && radiusGood v
+
+  pub no-centre : codesIf (panelGood p) p ≡ Cs.Refused → S.Refused ≡ sphereIf good p v
+  unfolding sphereIf
+  no-centre e = rw (codes-refused (panelGood p) p e)
+
+  pub no-radius : answerIf (radiusGood v) v ≡ C.Refused → S.Refused ≡ sphereIf good p v
+  unfolding sphereIf
+  no-radius e = rw (code-refused (radiusGood v) v e, and-false (panelGood p))
+
+  pub sphere-yes : (k : Colour) (n : ℕ) → codesIf (panelGood p) p ≡ Cs.Are k → answerIf (radiusGood v) v ≡ C.Is n → S.Is k n ≡ sphereIf good p v
+  unfolding sphereIf
+  sphere-yes k n d e =
+      let x = codes-told (panelGood p) p k d in
+      let y = code-told (radiusGood v) v n e in
+      rw (x .0, y .0, x .1, y .1)
+
+-- What the sphere tells.
+sphere-told : (b : Bool) (p : PanelColour) (v : Float) (k : Colour) (n : ℕ) → sphereIf b p v ≡ S.Is k n → (b ≡ true) × (codesOf p ≡ k) × (codeOf v ≡ n)
+unfolding sphereIf
+sphere-told true p v k n e = (refl, cc, cc)
+sphere-told false p v k n e = let z : _≡_ {A = ℕ} 0 1 = cc in absurd (omega arith)
+
+sphere-refused : (b : Bool) (p : PanelColour) (v : Float) → sphereIf b p v ≡ S.Refused → b ≡ false
+unfolding sphereIf
+sphere-refused true p v e = let z : _≡_ {A = ℕ} 0 1 = cc in absurd (omega arith)
+sphere-refused false p v e = refl
+
+module _ (p : PanelColour) (v : Float) where
+  pub ball-yes : (k : Colour) (n : ℕ) → sphereIf (panelGood p && radiusGood v) p v ≡ S.Is k n → askedOf (Q.Ball p v) ≡ A.List (R.Ball k n)
+  unfolding queryGood inCodes
+  ball-yes k n e = let t = sphere-told (panelGood p && radiusGood v) p v k n e in asked-yes (Q.Ball p v) (t .0) ∙ rw (t .1, t .2)
+
+  pub ball-no : sphereIf (panelGood p && radiusGood v) p v ≡ S.Refused → askedOf (Q.Ball p v) ≡ A.Refused
+  unfolding queryGood
+  ball-no e = asked-no (Q.Ball p v) (sphere-refused (panelGood p && radiusGood v) p v e)
+
+  pub nearest-yes : (k : Colour) (n : ℕ) → sphereIf (panelGood p && radiusGood v) p v ≡ S.Is k n → askedOf (Q.Nearest p v) ≡ A.Nearest k n
+  unfolding queryGood inCodes
+  nearest-yes k n e = let t = sphere-told (panelGood p && radiusGood v) p v k n e in asked-yes (Q.Nearest p v) (t .0) ∙ rw (t .1, t .2)
+
+  pub nearest-no : sphereIf (panelGood p && radiusGood v) p v ≡ S.Refused → askedOf (Q.Nearest p v) ≡ A.Refused
+  unfolding queryGood
+  nearest-no e = asked-no (Q.Nearest p v) (sphere-refused (panelGood p && radiusGood v) p v e)
+
+-- A box.
+module _ (low high : PanelColour) where
+  pub no-low : codesIf (panelGood low) low ≡ Cs.Refused → askedOf (Q.Box low high) ≡ A.Refused
+  unfolding queryGood
+  no-low e = asked-no (Q.Box low high) (rw (codes-refused (panelGood low) low e))
+
+  pub no-high : codesIf (panelGood high) high ≡ Cs.Refused → askedOf (Q.Box low high) ≡ A.Refused
+  unfolding queryGood
+  no-high e = asked-no (Q.Box low high) (rw (codes-refused (panelGood high) high e, and-false (panelGood low)))
+
+  module _ (l h : Colour) (el : codesIf (panelGood low) low ≡ Cs.Are l) (eh : codesIf (panelGood high) high ≡ Cs.Are h) where
+    box-good : queryGood (Q.Box low high) ≡ ordered l h
+    unfolding queryGood
+    box-good =
+        let x = codes-told (panelGood low) low l el in
+        let y = codes-told (panelGood high) high h eh in
+        rw (x .0, y .0, x .1, y .1)
+
+    pub box-yes : ordered l h ≡ true → askedOf (Q.Box low high) ≡ A.List (R.Box l h)
+    unfolding inCodes
+    box-yes e =
+        asked-yes (Q.Box low high) (box-good ∙ e) ∙ rw (codes-told (panelGood low) low l el .1, codes-told (panelGood high) high h eh .1)
+
+    pub box-no : ordered l h ≡ false → askedOf (Q.Box low high) ≡ A.Refused
+    box-no e = asked-no (Q.Box low high) (box-good ∙ e)
