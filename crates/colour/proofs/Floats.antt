@@ -5,3 +5,4 @@ pub mod Shown
 pub mod Channels
 pub mod Answers
 pub mod Queries
+pub mod Laws

@@ -1,5 +1,5 @@
 -- A query taken apart: from what its floats' answers tell to what it asks.
-use mathlib.Core.Path.{_≡_, refl, ap, _∙_}
+use mathlib.Core.Path.{_≡_, refl, _∙_}
 use mathlib.Core.Bool.{Bool, true, false, _&&_, and-false}
 use Prim.Native.Nat.{ℕ}
 use native.Mathlib.Omega.{arith}

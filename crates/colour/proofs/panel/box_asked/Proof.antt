@@ -1,8 +1,6 @@
 -- `panel::box_asked`: what codes_of and at_most ensure and the matches told, by laws of Floats.Queries.
 use borrow.Author.Needs.{needs}
-use mathlib.Core.Path.{_≡_, sym, _∙_}
-use Rattle.colour.specs.declared.panel.Codes.the-variants.{Are}
-use Rattle.colour.specs.Panel.{codesIf, panelGood}
+use mathlib.Core.Path.{sym, _∙_}
 use Rattle.colour.proofs.Floats.Queries.{no-low, no-high, box-yes, box-no}
 use Rattle.colour.proofs.panel.box_asked.Statement.{statement}
 use Rattle.colour.proofs.panel.box_asked.Tie as tie

@@ -57,7 +57,7 @@ add-if4 c = search needs
 returns-4 : tie.Need-returns-4
 returns-4 c =
     let s = c .before .before .before .before in
-    sym (too-high (s .args .v) (held s) (s .args .twos) (under _ (bits-lt (s .args .v) (held s)) (c .before .if3 .left)) (c .if4 .taken))
+    sym (too-high (s .args .v) (held s) (s .args .twos) (under _ (bits-lt (s .args .v) (held s)) (c .before .if3 .left)) (omega arith))
 
 returns-5 : tie.Need-returns-5
 returns-5 c =
@@ -78,7 +78,7 @@ returns-6 c =
     let s = c .before .before .before .before .before in
     let b = toBits binary32 (s .args .v) in
     ap (λ (t : ℕ). Is ((8388608 + t) / 2 ^ (134 - b / 8388608))) (and-mask b 23)
-    ∙ sym (between (s .args .v) (held s) (s .args .twos) (s .pre) (c .if5 .left) (c .before .if4 .left))
+    ∙ sym (between (s .args .v) (held s) (s .args .twos) (s .pre) (c .if5 .left) (omega arith))
 
 pub code-of-spec : {M : Type 1} → statement M
 code-of-spec =
