@@ -8,12 +8,12 @@ use native.Mathlib.Nat.{le-div-iff-mul-le, div-lt-iff-lt-mul, div-mul-le-self, m
 use native.Mathlib.Omega.{arith}
 use lib.Dec.{ltb, eqb, lit<}
 use borrow.Author.Tests.{ltb-true, lt-ltb, eqb-true, eq-eqb, le-leb}
-use lib.IntN.{ℤ}
-use lib.Ieee.{Float, nan, inf, fin, up, down}
+use lib.IntN.{ℤ, pos}
+use lib.Ieee.{Float, nan, inf, fin, up, down, round}
 use lib.Ieee.Fits.{down-pos}
 use Rattle.colour.specs.declared.PanelColour.{PanelColour}
 use Rattle.colour.specs.Colour.{Channel, Red, Green, Blue, each, codeIn, isCode, codesFit}
-use Rattle.colour.specs.Panel.{below, codeOf, channelGood, panelGood, codesOf}
+use Rattle.colour.specs.Panel.{below, codeOf, channelGood, panelGood, codesOf, shown}
 use Rattle.colour.proofs.Floats.Channels.{and-left, and-right, each-at, each-yes}
 use Rattle.colour.proofs.Floats.Answers.{floatIn}
 
@@ -71,3 +71,8 @@ good-fit p e =
     each-yes (λ h. isCode (codeIn h (codesOf p)))
     (λ h. rw (code-in h p)
     (le-leb (codeOf (floatIn h p)) 65535 (omega (arith, code-below 1 (floatIn h p) (each-at (λ h. channelGood (floatIn h p)) e h)))))
+
+-- The code 0 is shown as plus zero, so what a refusal shows is 0 in each channel.
+pub shown-zero : shown 0 ≡ fin false 0 (pos 0)
+unfolding shown round
+shown-zero = refl

@@ -12,6 +12,7 @@ use Rattle.colour.specs.declared.Region.the-variants as R
 use Rattle.colour.specs.declared.panel.Code.the-variants as C
 use Rattle.colour.specs.declared.panel.Codes.the-variants as Cs
 use Rattle.colour.specs.declared.panel.Sphere.the-variants as S
+use Rattle.colour.specs.declared.panel.Asked.{Asked}
 use Rattle.colour.specs.declared.panel.Asked.the-variants as A
 use Rattle.colour.specs.Panel.{panelGood, radiusGood, codesOf, codeOf, answerIf, codesIf}
 use Rattle.colour.specs.Query.{ordered, queryGood, inCodes, askedOf, askedNumber, sphereIf}
@@ -72,22 +73,16 @@ unfolding sphereIf
 sphere-refused true p v e = let z : _≡_ {A = ℕ} 0 1 = cc in absurd (omega arith)
 sphere-refused false p v e = refl
 
-module _ (p : PanelColour) (v : Float) where
-  pub ball-yes : (k : Colour) (n : ℕ) → sphereIf (panelGood p && radiusGood v) p v ≡ S.Is k n → askedOf (Q.Ball p v) ≡ A.List (R.Ball k n)
-  unfolding queryGood inCodes
-  ball-yes k n e = let t = sphere-told (panelGood p && radiusGood v) p v k n e in asked-yes (Q.Ball p v) (t .0) ∙ rw (t .1, t .2)
+-- A query that asks by a centre and a radius: a ball or a nearest query.
+module _ (q : Query) (p : PanelColour) (v : Float) (by : queryGood q ≡ (panelGood p && radiusGood v)) where
+  pub sphere-asked : (ask : Colour → ℕ → Asked) → inCodes q ≡ ask (codesOf p) (codeOf v)
+      → (k : Colour) (n : ℕ) → sphereIf (panelGood p && radiusGood v) p v ≡ S.Is k n → askedOf q ≡ ask k n
+  sphere-asked ask asks k n e =
+      let t = sphere-told (panelGood p && radiusGood v) p v k n e in
+      asked-yes q (by ∙ t .0) ∙ asks ∙ rw (t .1, t .2)
 
-  pub ball-no : sphereIf (panelGood p && radiusGood v) p v ≡ S.Refused → askedOf (Q.Ball p v) ≡ A.Refused
-  unfolding queryGood
-  ball-no e = asked-no (Q.Ball p v) (sphere-refused (panelGood p && radiusGood v) p v e)
-
-  pub nearest-yes : (k : Colour) (n : ℕ) → sphereIf (panelGood p && radiusGood v) p v ≡ S.Is k n → askedOf (Q.Nearest p v) ≡ A.Nearest k n
-  unfolding queryGood inCodes
-  nearest-yes k n e = let t = sphere-told (panelGood p && radiusGood v) p v k n e in asked-yes (Q.Nearest p v) (t .0) ∙ rw (t .1, t .2)
-
-  pub nearest-no : sphereIf (panelGood p && radiusGood v) p v ≡ S.Refused → askedOf (Q.Nearest p v) ≡ A.Refused
-  unfolding queryGood
-  nearest-no e = asked-no (Q.Nearest p v) (sphere-refused (panelGood p && radiusGood v) p v e)
+  pub sphere-not-asked : sphereIf (panelGood p && radiusGood v) p v ≡ S.Refused → askedOf q ≡ A.Refused
+  sphere-not-asked e = asked-no q (by ∙ sphere-refused (panelGood p && radiusGood v) p v e)
 
 -- A box.
 module _ (low high : PanelColour) where

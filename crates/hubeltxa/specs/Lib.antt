@@ -1,0 +1,2 @@
+-- The calls of the C boundary, by the definitions of the crates that they call.
+pub mod Lent

@@ -1,0 +1,64 @@
+// The C boundary. Each call takes numbers, floats and lent words, and is a thin call of the crate that does the work.
+use colour::Colour;
+use colour::PanelColour;
+use colour::panel::Codes;
+use colour::panel::Floats;
+ghost use mathlib.Core.Path.{_≡_};
+ghost use Rattle.colour.specs.Panel.{floatsToCodes, codesToFloats};
+ghost use Rattle.hubeltxa.specs.Lent.{colourOf, panelColourOf, codesLent, floatsLent};
+
+// Floats to codes.
+#[no_mangle]
+pub extern "C" fn hbx_codes(
+    red: f32,
+    green: f32,
+    blue: f32,
+    red_code: &mut u32,
+    green_code: &mut u32,
+    blue_code: &mut u32,
+) -> u32
+    ensures { λ r. ⌜ codesLent r (now («red_code» .exit)) (now («green_code» .exit)) (now («blue_code» .exit)) ≡ floatsToCodes (panelColourOf red green blue) ⌝ }
+{
+    match colour::panel::codes_of(PanelColour { red, green, blue }) {
+        Codes::Are(c) => {
+            *red_code = c.red;
+            *green_code = c.green;
+            *blue_code = c.blue;
+            0
+        }
+        Codes::Refused => {
+            *red_code = 0;
+            *green_code = 0;
+            *blue_code = 0;
+            9
+        }
+    }
+}
+
+// Codes to floats.
+#[no_mangle]
+pub extern "C" fn hbx_floats(
+    red: u32,
+    green: u32,
+    blue: u32,
+    red_out: &mut f32,
+    green_out: &mut f32,
+    blue_out: &mut f32,
+) -> u32
+    ensures { λ r. ⌜ floatsLent r (now («red_out» .exit)) (now («green_out» .exit)) (now («blue_out» .exit)) ≡ codesToFloats (colourOf red green blue) ⌝ }
+{
+    match colour::panel::floats_of(Colour { red, green, blue }) {
+        Floats::Are(p) => {
+            *red_out = p.red;
+            *green_out = p.green;
+            *blue_out = p.blue;
+            0
+        }
+        Floats::Refused => {
+            *red_out = 0.0;
+            *green_out = 0.0;
+            *blue_out = 0.0;
+            4
+        }
+    }
+}
