@@ -1,8 +1,8 @@
--- Panel floats to codes, codes to panel floats, and what the answers tell.
+-- Panel floats to codes and back, and queries taken apart.
 pub mod Value
 pub mod Fields
 pub mod Shown
 pub mod Channels
 pub mod Answers
-pub mod Queries
 pub mod Laws
+pub mod Queries

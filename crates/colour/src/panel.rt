@@ -30,7 +30,7 @@ pub enum Floats {
 }
 
 // A centre and a radius in codes, or that one is out of range.
-pub enum Sphere {
+enum Sphere {
     Is(Colour, u32),
     Refused,
 }
@@ -42,8 +42,8 @@ pub enum Asked {
     Refused,
 }
 
-// The code of v, which has to be below 2 to the power twos: by sign, exponent and fraction out of the bits.
-// A NaN has no bits of its own, so it is refused first. Below 2^-16 the code is 0; from there on it is the
+// The code of v, which has to be below 2 to the power twos, by sign, exponent and fraction out of its bits.
+// to_bits takes no NaN, so a NaN is refused first. Below 2^-16 the code is 0; from there on it is the
 // significand without the digits that stand for less than 2^-16.
 fn code_of(v: f32, twos: u32) -> Code
     requires { ⌜ twos ≤ 1 ⌝ }
@@ -181,7 +181,7 @@ fn box_asked(low: PanelColour, high: PanelColour) -> Asked
     }
 }
 
-// The query taken apart: an exported call.
+// A query taken apart: an exported call.
 pub fn asked_of(q: Query) -> Asked
     ensures { λ r. ⌜ r ≡ askedOf q ⌝ }
 {

@@ -17,7 +17,8 @@ pub extern "C" fn hbx_codes(
     green_code: &mut u32,
     blue_code: &mut u32,
 ) -> u32
-    ensures { λ r. ⌜ codesLent r (now («red_code» .exit)) (now («green_code» .exit)) (now («blue_code» .exit)) ≡ floatsToCodes (panelColourOf red green blue) ⌝ }
+    ensures { λ r. ⌜ codesLent r (now («red_code» .exit)) (now («green_code» .exit)) (now («blue_code» .exit))
+        ≡ floatsToCodes (panelColourOf red green blue) ⌝ }
 {
     match colour::panel::codes_of(PanelColour { red, green, blue }) {
         Codes::Are(c) => {
@@ -45,7 +46,8 @@ pub extern "C" fn hbx_floats(
     green_out: &mut f32,
     blue_out: &mut f32,
 ) -> u32
-    ensures { λ r. ⌜ floatsLent r (now («red_out» .exit)) (now («green_out» .exit)) (now («blue_out» .exit)) ≡ codesToFloats (colourOf red green blue) ⌝ }
+    ensures { λ r. ⌜ floatsLent r (now («red_out» .exit)) (now («green_out» .exit)) (now («blue_out» .exit))
+        ≡ codesToFloats (colourOf red green blue) ⌝ }
 {
     match colour::panel::floats_of(Colour { red, green, blue }) {
         Floats::Are(p) => {

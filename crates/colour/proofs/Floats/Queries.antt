@@ -1,22 +1,26 @@
 -- A query taken apart: from what its floats' answers tell to what it asks.
 use mathlib.Core.Path.{_≡_, refl, _∙_}
 use mathlib.Core.Bool.{Bool, true, false, _&&_, and-false}
-use Prim.Native.Nat.{ℕ}
+use Prim.Native.Nat.{ℕ, _<_}
 use native.Mathlib.Omega.{arith}
 use lib.Ieee.{Float}
 use Rattle.colour.specs.declared.Colour.{Colour}
 use Rattle.colour.specs.declared.PanelColour.{PanelColour}
 use Rattle.colour.specs.declared.Query.{Query}
 use Rattle.colour.specs.declared.Query.the-variants as Q
+use Rattle.colour.specs.declared.Region.{Region}
 use Rattle.colour.specs.declared.Region.the-variants as R
 use Rattle.colour.specs.declared.panel.Code.the-variants as C
 use Rattle.colour.specs.declared.panel.Codes.the-variants as Cs
 use Rattle.colour.specs.declared.panel.Sphere.the-variants as S
 use Rattle.colour.specs.declared.panel.Asked.{Asked}
 use Rattle.colour.specs.declared.panel.Asked.the-variants as A
+use Rattle.colour.specs.Colour.{codesFit}
 use Rattle.colour.specs.Panel.{panelGood, radiusGood, codesOf, codeOf, answerIf, codesIf}
 use Rattle.colour.specs.Query.{ordered, queryGood, inCodes, askedOf, askedNumber, sphereIf}
 use Rattle.colour.proofs.Floats.Answers.{code-told, code-refused, codes-told, codes-refused}
+use Rattle.colour.proofs.Floats.Channels.{and-left, and-right}
+use Rattle.colour.proofs.Floats.Laws.{code-below, good-fit}
 
 -- A good query is answered in its codes, any other is refused.
 module _ (q : Query) where
@@ -109,3 +113,38 @@ module _ (low high : PanelColour) where
 
     pub box-no : ordered l h ≡ false → askedOf (Q.Box low high) ≡ A.Refused
     box-no e = asked-no (Q.Box low high) (box-good ∙ e)
+
+-- What a query asks lies in range: codes up to 65,535, a radius below 131,072, a box in order.
+abbrev pub SphereFits : Colour → ℕ → Type 0
+SphereFits k n = (codesFit k ≡ true) × (n < 131072)
+
+abbrev pub RegionFits : Region → Type 0
+RegionFits (R.Ball k n) = SphereFits k n
+RegionFits (R.Box l h) = (codesFit l ≡ true) × (codesFit h ≡ true) × (ordered l h ≡ true)
+
+abbrev pub AskedFits : Asked → Type 0
+AskedFits (A.List r) = RegionFits r
+AskedFits (A.Nearest k n) = SphereFits k n
+AskedFits A.Refused = Unit
+
+sphere-fits : (p : PanelColour) (v : Float) → (panelGood p && radiusGood v) ≡ true → SphereFits (codesOf p) (codeOf v)
+unfolding radiusGood
+sphere-fits p v e = (good-fit p (and-left (panelGood p) (radiusGood v) e), code-below 2 v (and-right (panelGood p) (radiusGood v) e))
+
+in-codes-fits : (q : Query) → queryGood q ≡ true → AskedFits (inCodes q)
+unfolding queryGood inCodes
+in-codes-fits (Q.Ball p v) e = sphere-fits p v e
+in-codes-fits (Q.Nearest p v) e = sphere-fits p v e
+in-codes-fits (Q.Box low high) e =
+    let o = ordered (codesOf low) (codesOf high) in
+    let both = and-left (panelGood low && panelGood high) o e in (
+      good-fit low (and-left (panelGood low) (panelGood high) both),
+      good-fit high (and-right (panelGood low) (panelGood high) both),
+      and-right (panelGood low && panelGood high) o e,
+    )
+
+pub asked-fits : (q : Query) → AskedFits (askedOf q)
+asked-fits q = at (queryGood q) refl where
+  at : (b : Bool) → queryGood q ≡ b → AskedFits (askedOf q)
+  at true e = rw (asked-yes q e) (in-codes-fits q e)
+  at false e = rw (asked-no q e) tt

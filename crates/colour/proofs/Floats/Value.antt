@@ -1,7 +1,8 @@
 -- The code of a float by the fraction a / c that it equals: the definitions of Panel, which read m * up e / down e, read a / c as well.
 use mathlib.Core.Path.{_≡_, sym, ap, _∙_, subst}
 use Prim.Native.Nat.{ℕ, _*_, _/_, _≤_, _<_}
-use native.Mathlib.Nat.{lt-irrefl, lt-of-lt-of-le, le-of-eq, le-trans, le-of-mul-le-mul-right, lt-of-mul-lt-mul-right, mul-assoc, mul-right-comm, mul-le-mul-right, mul-lt-mul-of-pos-right, mul-pos, zero-mul, lt-of-le-of-lt}
+use native.Mathlib.Nat.{lt-irrefl, lt-of-lt-of-le, lt-of-le-of-lt, le-of-eq, le-trans, le-of-mul-le-mul-right, lt-of-mul-lt-mul-right}
+use native.Mathlib.Nat.{mul-assoc, mul-right-comm, mul-le-mul-right, mul-lt-mul-of-pos-right, mul-pos, zero-mul}
 use mathlib.Core.Bool.{Bool, true, false}
 use lib.Dec.{ltb, eqb, lt→ltb, not-T, eqb→eq}
 use lib.Arith.{le→nltb}
