@@ -1,13 +1,14 @@
 -- A good line has its tag and its codes in range (document 01, "Sheets").
 use Prim.Native.Nat.{ℕ, zero, suc, _<_, _^_}
-use mathlib.Core.Bool.{Bool, true, false, _&&_, true≢false}
+use mathlib.Core.Bool.{Bool, true, false, _&&_}
 use mathlib.Core.List.{List, [], _∷_}
 use mathlib.Core.Option.{Option, none, some}
-use mathlib.Core.Path.{_≡_, refl, sym}
+use mathlib.Core.Path.{_≡_, refl}
 use lib.Dec.{ltb}
 use borrow.Author.Tests.{ltb-true}
 use Rattle.colour.specs.declared.Colour.{Colour}
 use Rattle.colour.specs.Colour.{codesFit}
+use Rattle.colour.proofs.Laws.Channels.{and-both}
 use Rattle.sheet.specs.Line.{Line, lineFrom, lineFormed, lineOf}
 use Rattle.sheet.specs.Sheet.{linePart, linesFrom, linesBy, lineCount, linesOf}
 
@@ -28,10 +29,6 @@ unfoldable pub SheetRanged : Option (List (Option Line)) → Type 0
 SheetRanged none = Unit {0}
 SheetRanged (some lines) = AllRanged lines
 
-both : (a b : Bool) → (a && b) ≡ true → (a ≡ true) × (b ≡ true)
-both true b h = (refl, h)
-both false b h = absurd (true≢false (sym h))
-
 from-ranged : (t r g b : Option ℕ) (n : ℕ) → Ranged (lineFrom t r g b n)
 unfolding Ranged lineFrom
 from-ranged none r g b n = tt
@@ -43,7 +40,7 @@ from-ranged (some t) (some r) (some g) (some b) n = go (ltb t (2 ^ 32) && codesF
     go : (q : Bool) → (ltb t (2 ^ 32) && codesFit (record { red = r; green = g; blue = b })) ≡ q
         → Ranged (lineFrom (some t) (some r) (some g) (some b) n)
     go true e =
-        let h = both (ltb t (2 ^ 32)) _ e in
+        let h = and-both (ltb t (2 ^ 32)) _ .0 e in
         rw (e, lineFrom) (record { tag = ltb-true t (2 ^ 32) (h .0); codes = h .1 })
     go false e = rw (e, lineFrom) tt
 

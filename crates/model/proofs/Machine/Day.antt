@@ -7,6 +7,7 @@ use lib.ListN.{length}
 use lib.Dec.{leb, eqb}
 use native.Mathlib.Omega.{arith}
 use borrow.Author.Tests.{leb-true, le-leb, eqb-true, eqb-false}
+use Rattle.colour.proofs.Laws.Channels.{and-both}
 use Rattle.colour.specs.Question.{firstNo}
 use Rattle.model.specs.SampleSet.{Settings}
 use Rattle.model.specs.Layout.{current, sampleHeader, octantHeader}
@@ -15,7 +16,6 @@ use Rattle.model.specs.Machine.{Machine, Call, Clear, Load, Add, Remove,
 use Rattle.model.specs.Sound.{Shows, Sound, longEnough}
 use Rattle.model.specs.Meets.{Meets, ClearMeets, TableMeets, Follows, Refused, lent}
 use Rattle.model.specs.Trace.{Event, callOf, Happened, played, machineTrace, WholeDay}
-use Rattle.model.proofs.Lists.{and-left, and-right}
 use Rattle.model.proofs.Tables.Unique.{samples-length, octants-length, current-complete}
 use Rattle.model.proofs.Machine.Valid.{step-valid, cleared-valid}
 
@@ -80,11 +80,10 @@ pub whole-day : WholeDay
 unfolding Happened machineTrace Meets longEnough start
 whole-day b t h q a t₀ es r =
     let g : (a ≡ plain 0 []) × (t₀ ≡ tablesOf current (start b t)) = r .0 .accepted h q in
+    let long = and-both (leb (sampleHeader current) (length (t .samples))) (leb (octantHeader current) (length (t .octants))) .0 h in
     let s : Shows current (start b t) t₀ =
     record {
-      valid =
-          cleared-valid b (length (t .samples)) (length (t .octants)) (leb-true _ _ (and-left _ _ h))
-          (leb-true _ _ (and-right (leb (sampleHeader current) (length (t .samples))) _ h)) q;
+      valid = cleared-valid b (length (t .samples)) (length (t .octants)) (leb-true _ _ (long .0)) (leb-true _ _ (long .1)) q;
       words = g .1;
     } in
     λ i. record { call = Clear b; answer = g .0 i; after = g .1 i } ∷ day-from es (start b t) t₀ s (r .1) i

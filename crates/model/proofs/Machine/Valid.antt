@@ -11,6 +11,7 @@ use borrow.Author.Tests.{ltb-true, leb-true, eqb-true, eqb-false, ne-eqb, not-tr
 use Rattle.colour.specs.declared.Sample.{Sample}
 use Rattle.colour.specs.Colour.{codesFit}
 use Rattle.colour.specs.Octant.{depths}
+use Rattle.colour.proofs.Laws.Channels.{and-both}
 use Rattle.colour.specs.Question.{Question, asks, firstNo}
 use Rattle.sheet.specs.Line.{Line}
 use Rattle.sheet.specs.Sheet.{linesOf}
@@ -20,7 +21,7 @@ use Rattle.model.specs.SampleSet.{Settings, SampleSet, placedFrom, place
 use Rattle.model.specs.Layout.{current, sampleHeader, octantHeader, sampleRows, octantRows}
 use Rattle.model.specs.Machine.{Machine, Call, Clear, Load, Add, Remove, Ask, Outcome, withSamples, cleared, added, removed, hasTag, clearQuestions, roomQuestions, addQuestions, removeQuestions, unlessRefused, loadLines, load, step}
 use Rattle.model.specs.Sound.{Valid, distinct, inRange}
-use Rattle.model.proofs.Lists.{and-left, and-right, keep-length}
+use Rattle.model.proofs.Lists.{keep-length}
 use Rattle.model.proofs.Tree.Octants.{no-octants, fewer-octants, keep-fewer}
 
 -- Of a list without a tag: its first has another, its rest is without it.
@@ -133,11 +134,12 @@ pub cleared-valid : (b : Settings) (n k : ℕ) → sampleHeader current ≤ n �
 unfolding clearQuestions distinct inRange octants placed placedFrom cleared
 cleared-valid b n k h g q =
     let q3 = asked 3 (leb 1 (b .bucket) && leb (b .bucket) 256) [] (λ z. omega arith) q in
+    let size = and-both (leb 1 (b .bucket)) (leb (b .bucket) 256) .0 (q3 .0) in
     record {
       sample-words = h;
       octant-words = g;
-      bucket-low = leb-true 1 (b .bucket) (and-left _ _ (q3 .0));
-      bucket-high = leb-true (b .bucket) 256 (and-right (leb 1 (b .bucket)) _ (q3 .0));
+      bucket-low = leb-true 1 (b .bucket) (size .0);
+      bucket-high = leb-true (b .bucket) 256 (size .1);
       tags-distinct = tt;
       in-range = tt;
       rows-fit = omega arith;
