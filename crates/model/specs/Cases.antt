@@ -1,23 +1,20 @@
 -- Cases a to l of document 01 and its walklist example, each a computed test on the definitions, gathered in one table with one theorem.
 use Prim.Native.Nat.{ℕ}
-use mathlib.Core.Bool.{Bool, true, false, _&&_, not}
+use mathlib.Core.Bool.{Bool, true, false, _&&_}
 use mathlib.Core.Path.{_≡_, refl}
 use mathlib.Core.List.{List, [], _∷_, _++_, map}
 use lib.Dec.{eqb}
 use lib.ListN.{length, take, drop, getD, replicate}
 use lib.Ieee.{Float, binary32, ofBits, round}
-use Rattle.colour.specs.declared.Colour.{Colour}
 use Rattle.colour.specs.declared.PanelColour.{PanelColour}
 use Rattle.colour.specs.declared.Sample.{Sample}
-use Rattle.colour.specs.declared.Query.{Query}
 use Rattle.colour.specs.declared.Query.the-variants.{Ball, Nearest}
 use Rattle.colour.specs.Panel.{codeOf, shown, CodesAnswer, floatsToCodes}
 use Rattle.sheet.specs.Line.{lineBytes}
-use Rattle.model.specs.SampleSet.{SampleSet, order, octants}
+use Rattle.model.specs.SampleSet.{order, octants}
 use Rattle.model.specs.Layout.{current}
-use Rattle.model.specs.Tables.{Tables}
 use Rattle.model.specs.Queries.{tagOf}
-use Rattle.model.specs.Machine.{Machine, Call, Load, Add, Remove, Ask, Answer, Outcome, tablesOf, cleared, step}
+use Rattle.model.specs.Machine.{Machine, Call, Add, Remove, Ask, Answer, tablesOf, cleared, step}
 use Rattle.model.specs.Walklist.{walklistStart, tagLines, refusedLine, walklistPrints}
 use Rattle.model.specs.Computes.{computes}
 

@@ -13,7 +13,6 @@ use Rattle.colour.specs.Query.{queryGood}
 use Rattle.model.specs.SampleSet.{Settings}
 use Rattle.model.specs.Layout.{current}
 use Rattle.model.specs.Tables.{Tables}
-use Rattle.model.specs.Queries.{Counts}
 use Rattle.model.specs.Machine.{Machine, Call, Clear, Load, Add, Remove, Ask, Answer, tablesOf, plain, listAnswer, nearAnswer, step, start, clearQuestions}
 use Rattle.model.specs.Sound.{Shows, Sound, longEnough}
 

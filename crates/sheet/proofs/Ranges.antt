@@ -6,7 +6,6 @@ use mathlib.Core.Option.{Option, none, some}
 use mathlib.Core.Path.{_≡_, refl}
 use lib.Dec.{ltb}
 use borrow.Author.Tests.{ltb-true}
-use Rattle.colour.specs.declared.Colour.{Colour}
 use Rattle.colour.specs.Colour.{codesFit}
 use Rattle.colour.proofs.Laws.Channels.{and-both}
 use Rattle.sheet.specs.Line.{Line, lineFrom, lineFormed, lineOf}

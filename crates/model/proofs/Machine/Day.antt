@@ -1,6 +1,6 @@
 -- The whole-day theorem (demand 3): `whole-day`. It rests on each call's contract alone, on `step-valid`, and on the tables' lengths.
-use Prim.Native.Nat.{ℕ, _≤_}
-use mathlib.Core.Bool.{Bool, true, false, _&&_}
+use Prim.Native.Nat.{ℕ}
+use mathlib.Core.Bool.{Bool, true, false}
 use mathlib.Core.List.{List, [], _∷_, map}
 use mathlib.Core.Path.{_≡_, refl, sym, ap, _∙_}
 use lib.ListN.{length}
@@ -12,9 +12,9 @@ use Rattle.colour.specs.Question.{firstNo}
 use Rattle.model.specs.SampleSet.{Settings}
 use Rattle.model.specs.Layout.{current, sampleHeader, octantHeader}
 use Rattle.model.specs.Tables.{Tables}
-use Rattle.model.specs.Machine.{Machine, Call, Clear, Load, Add, Remove, Ask, Answer, Outcome, tablesOf, cleared, step, start, plain, clearQuestions, unlessRefused}
-use Rattle.model.specs.Sound.{Shows, Sound, longEnough}
-use Rattle.model.specs.Meets.{Meets, ClearMeets, TableMeets, Follows, Refused, lent}
+use Rattle.model.specs.Machine.{Machine, Call, Clear, Load, Add, Remove, Ask, Answer, tablesOf, cleared, step, start, plain, clearQuestions, unlessRefused}
+use Rattle.model.specs.Sound.{Shows, longEnough}
+use Rattle.model.specs.Meets.{Meets, ClearMeets, Follows, Refused, lent}
 use Rattle.model.specs.Trace.{Event, callOf, Happened, played, machineTrace, WholeDay}
 use Rattle.model.proofs.Tables.Unique.{samples-length, octants-length, current-complete}
 use Rattle.model.proofs.Machine.Valid.{step-valid, cleared-valid}

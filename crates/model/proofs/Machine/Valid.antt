@@ -1,5 +1,5 @@
 -- Each call keeps the machine within its tables (document 01, "The bin" and "Questions").
-use Prim.Native.Nat.{ℕ, suc, _≤_, _<_}
+use Prim.Native.Nat.{ℕ, suc, _≤_}
 use mathlib.Core.Bool.{Bool, true, false, not, _&&_, true≢false}
 use mathlib.Core.List.{List, [], _∷_, _++_}
 use mathlib.Core.Option.{Option, none, some}
@@ -17,9 +17,9 @@ use Rattle.sheet.specs.Line.{Line}
 use Rattle.sheet.specs.Sheet.{linesOf}
 use Rattle.sheet.proofs.Ranges.{Ranged, AllRanged, SheetRanged, sheet-ranged}
 use Rattle.model.specs.Lists.{keep}
-use Rattle.model.specs.SampleSet.{Settings, SampleSet, placedFrom, placed, octantsOf, octants}
+use Rattle.model.specs.SampleSet.{Settings, placedFrom, placed, octants}
 use Rattle.model.specs.Layout.{current, sampleHeader, octantHeader, sampleRows, octantRows}
-use Rattle.model.specs.Machine.{Machine, Call, Clear, Load, Add, Remove, Ask, Outcome, withSamples, cleared, added, removed, hasTag, clearQuestions, roomQuestions, addQuestions, removeQuestions, unlessRefused, loadLines, load, step}
+use Rattle.model.specs.Machine.{Machine, Call, Clear, Load, Add, Remove, Ask, withSamples, cleared, added, removed, hasTag, clearQuestions, roomQuestions, addQuestions, removeQuestions, unlessRefused, loadLines, load, step}
 use Rattle.model.specs.Sound.{Valid, distinct, inRange}
 use Rattle.model.proofs.Lists.{keep-length}
 use Rattle.model.proofs.Tree.Octants.{no-octants, fewer-octants, keep-fewer}

@@ -1,7 +1,7 @@
 -- The tables of a set that fits are as long as the machine says. The row arithmetic is over the layout's widths.
-use Prim.Native.Nat.{ℕ, zero, suc, _+_, _-_, _*_, _/_, _≤_, _<_, min}
+use Prim.Native.Nat.{ℕ, zero, suc, _+_, _-_, _*_, _/_, _≤_, min}
 use mathlib.Core.Bool.{Bool, true, false}
-use mathlib.Core.List.{List, [], _∷_, _++_, map}
+use mathlib.Core.List.{List, [], _∷_, map}
 use mathlib.Core.Path.{_≡_, refl, sym, ap, _∙_}
 use lib.ListN.{length, replicate, length-replicate, length-append, length-map}
 use native.Mathlib.Nat.{mul-suc, mul-zero, mul-one, mul-comm, mul-le-mul-right, div-mul-le-self, le-trans}

@@ -1,19 +1,18 @@
 -- Tables are those of at most one set (document 01, "The tables"): the set can be read off every layout that names tag, codes and settings.
-use Prim.Native.Nat.{ℕ, suc, _≤_, _<_}
+use Prim.Native.Nat.{ℕ, suc, _<_}
 use mathlib.Core.List.{List, [], _∷_, _++_, map, append-assoc}
 use mathlib.Core.Path.{_≡_, refl, sym, ap, _∙_, subst}
-use lib.ListN.{length, length-map, replicate}
+use lib.ListN.{length, length-map}
 use lib.Seq.{take-at, drop-at}
 use native.Mathlib.Omega.{arith}
-use Rattle.colour.specs.declared.Colour.{Colour}
 use Rattle.colour.specs.declared.Sample.{Sample}
 use Rattle.colour.specs.Colour.{Channel, Red, Green, Blue, codeIn}
 use Rattle.model.specs.Lists.{padded}
-use Rattle.model.specs.SampleSet.{Settings, SampleSet, Placed, placedFrom, placed, order}
-use Rattle.model.specs.Layout.{Layout, Setting, Bucket, SampleField, Tag, Code, Next, current}
+use Rattle.model.specs.SampleSet.{SampleSet, Placed, placedFrom, placed, order}
+use Rattle.model.specs.Layout.{Layout, Bucket, Tag, Code, current}
 use Rattle.model.specs.Tables.{Tables, settingWord, sampleWord, sampleRowsOf, sampleWords, octantWords, tablesFor}
 use Rattle.model.specs.Machine.{Machine, tablesOf}
-use Rattle.model.specs.Sound.{Valid, Shows}
+use Rattle.model.specs.Sound.{Shows}
 use Rattle.model.proofs.Tables.Size.{padded-length, sample-words-fit, octant-words-fit}
 
 -- x is in a list.

@@ -1,12 +1,12 @@
 -- The octant count: at most 17 times the sample count, and it never falls when a sample is added (document 01, "The bin": the tree).
-use Prim.Native.Nat.{ℕ, zero, suc, _+_, _*_, _≤_, _<_, min}
+use Prim.Native.Nat.{ℕ, zero, suc, _*_, _≤_}
 use mathlib.Core.Bool.{Bool, true, false}
 use mathlib.Core.List.{List, [], _∷_, _++_}
-use mathlib.Core.Path.{_≡_, refl, sym, ap, _∙_}
-use lib.Dec.{eqb, ltb, leb·suc-zero}
+use mathlib.Core.Path.{_≡_, refl, ap, _∙_}
+use lib.Dec.{eqb, leb·suc-zero}
 use lib.ListN.{length}
 use native.Mathlib.Omega.{arith}
-use native.Mathlib.Nat.{suc-mul, mul-comm, mul-le-mul}
+use native.Mathlib.Nat.{suc-mul}
 use borrow.Author.Tests.{ltb-true, ltb-false}
 use Rattle.colour.specs.declared.Sample.{Sample}
 use Rattle.colour.specs.Octant.{depths, children, childNumber}
