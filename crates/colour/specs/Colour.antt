@@ -1,5 +1,5 @@
 -- Codes, colours and their distance (document 01, "Colours and octants"; d² from "Picks").
-use Prim.Native.Nat.{ℕ, _+_, _-_, _*_}
+use Prim.Native.Nat.{ℕ, _+_, _-_, _*_, _≤_}
 use mathlib.Core.Bool.{Bool, _&&_}
 use lib.Dec.{leb}
 use Rattle.colour.specs.declared.Colour.{Colour}
@@ -35,6 +35,12 @@ isCode x = leb x 65535
 -- A colour: red, green, blue codes. Question 4 asks this.
 unfoldable pub codesFit : Colour → Bool
 codesFit c = each (λ h. isCode (codeIn h c))
+
+-- The same, as the code asks it of a colour; `in-range` and `fit` of proofs/Arith/Codes.antt show the two to agree.
+pub record InRange (c : Colour) : Type 0 where
+  pub red : c .red ≤ 65535
+  pub green : c .green ≤ 65535
+  pub blue : c .blue ≤ 65535
 
 -- The colour with the code 0 in each channel.
 unfoldable pub black : Colour

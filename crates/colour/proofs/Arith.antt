@@ -1,0 +1,4 @@
+-- Laws on codes, cubes and tables that the functions' proofs cite.
+pub mod Codes
+pub mod Cubes
+pub mod Table
