@@ -5,7 +5,7 @@ use lib.Dec.{leb, ltb}
 use Rattle.colour.specs.declared.Colour.{Colour}
 use Rattle.colour.specs.declared.Region.{Region}
 use Rattle.colour.specs.declared.Region.the-variants.{Ball, Box}
-use Rattle.colour.specs.Colour.{Channel, codeIn, colourBy, each, apart, distance}
+use Rattle.colour.specs.Colour.{Channel, codeIn, colourBy, each, apart, distance, InRange}
 use Rattle.colour.specs.Octant.{lastCode}
 
 -- The code from low to high that is closest to x, and the one that is farthest.
@@ -36,3 +36,8 @@ overlaps (Box lo hi) s low = each (λ h. leb (codeIn h lo) (lastCode s (codeIn h
 unfoldable pub inside : Region → ℕ → Colour → Bool
 inside (Ball c r) s low = ltb (distance c (farthest c s low)) (r * r)
 inside (Box lo hi) s low = each (λ h. leb (codeIn h lo) (codeIn h low) && leb (lastCode s (codeIn h low)) (codeIn h hi))
+
+-- What the code asks of a region: a ball's centre is a colour. A box's codes are only compared, so any will do.
+unfoldable pub Fair : Region → Type 0
+Fair (Ball c r) = InRange c
+Fair (Box lo hi) = Unit

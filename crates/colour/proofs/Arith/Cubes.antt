@@ -22,6 +22,10 @@ pub side-most : (d : ℕ) → sideAt d ≤ 65536
 unfolding sideAt depths
 side-most d = let h : 16 - d ≤ 16 = omega arith in pow-le-pow-right (omega arith) h
 
+-- A cube's codes in a channel, for a side that is known to be its.
+pub room : (c : Cube) (s : ℕ) → Within c → s ≡ sideAt (c .depth) → (h : Channel) → (1 ≤ s) × (codeIn h (c .low) + s ≤ 65536)
+room c s w e h = rw e (side-least _, w .low h)
+
 -- Two children stand side by side within their parent; the code has the child's depth as d + 1.
 pub child-room : (c : Cube) (s : ℕ) → Within c → c .depth < 16 → s ≡ sideAt (c .depth + 1) → (h : Channel) → codeIn h (c .low) + (s + s) ≤ 65536
 child-room c s w d e h = omega (arith, e ∙ ap sideAt (add-one (c .depth)), w .low h, side-twice (c .depth) d)

@@ -1,0 +1,42 @@
+-- The three gaps are those to the closest colour's codes, so their squares sum to its distance.
+use borrow.Author.Needs.{needs}
+use Rattle.colour.specs.Region.{closest}
+use Rattle.colour.specs.Colour.{Channel, codeIn, colourBy, sumOf, distance}
+use Rattle.colour.proofs.Arith.Cubes.{room}
+use Rattle.colour.specs.Octant.{depths}
+use Rattle.colour.proofs.overlap.closest_distance.Statement.{statement}
+use Rattle.colour.proofs.overlap.closest_distance.Tie as tie
+
+side-requires : tie.Need-side-requires
+unfolding depths
+side-requires c κs = c .before .pre .1 .depth
+
+closest-gap-requires : tie.Need-closest-gap-requires
+unfolding codeIn
+closest-gap-requires c κs = (c .before .before .pre .0 .red, room _ _ (c .before .before .pre .1) (c .side .ensures .0) Channel.Red)
+
+closest-gap-requires-2 : tie.Need-closest-gap-requires-2
+unfolding codeIn
+closest-gap-requires-2 c κs = (c .before .before .before .pre .0 .green, room _ _ (c .before .before .before .pre .1) (c .before .side .ensures .0) Channel.Green)
+
+closest-gap-requires-3 : tie.Need-closest-gap-requires-3
+unfolding codeIn
+closest-gap-requires-3 c κs = (c .before .before .before .before .pre .0 .blue, room _ _ (c .before .before .before .before .pre .1) (c .before .before .side .ensures .0) Channel.Blue)
+
+squares-requires : tie.Need-squares-requires
+squares-requires c κs = search needs
+
+returns : tie.Need-returns
+unfolding distance sumOf closest colourBy codeIn
+returns c = (cc, c .squares .ensures .1)
+
+pub closest-distance-spec : {M : Type 1} → statement M
+closest-distance-spec =
+    tie.close
+    (tie.spec
+    side-requires
+    closest-gap-requires
+    closest-gap-requires-2
+    closest-gap-requires-3
+    squares-requires
+    returns)
