@@ -1,4 +1,5 @@
 -- Laws on codes, cubes and tables that the functions' proofs cite.
+pub mod Base8
 pub mod Codes
 pub mod Cubes
 pub mod Gaps

@@ -6,7 +6,7 @@ use native.Mathlib.Omega.{arith}
 use mathlib.Core.Path.{_≡_, _∙_, ap, subst⁻¹}
 use Rattle.colour.specs.declared.Colour.{Colour}
 use Rattle.colour.specs.declared.Cube.{Cube}
-use Rattle.colour.specs.Colour.{Channel, codeIn, colourBy, black}
+use Rattle.colour.specs.Colour.{Channel, codeIn, black}
 use Rattle.colour.specs.Octant.{depths, sideAt, weight, childLow, childCube, rootCube, Within}
 use Rattle.colour.proofs.Arith.Codes.{codeIn-by, bit-most}
 
@@ -21,6 +21,9 @@ side-least d = one-le-pow (depths - d) 2 (omega arith)
 pub side-most : (d : ℕ) → sideAt d ≤ 65536
 unfolding sideAt depths
 side-most d = let h : 16 - d ≤ 16 = omega arith in pow-le-pow-right (omega arith) h
+
+pub is-side : (d : ℕ) {s : ℕ} → s ≡ sideAt d → (s ≡ sideAt d) × ((1 ≤ s) × (s ≤ 65536))
+is-side d e = (e, rw e (side-least d, side-most d))
 
 -- A cube's codes in a channel, for a side that is known to be its.
 pub room : (c : Cube) (s : ℕ) → Within c → s ≡ sideAt (c .depth) → (h : Channel) → (1 ≤ s) × (codeIn h (c .low) + s ≤ 65536)

@@ -2,7 +2,6 @@
 use Prim.Native.Nat.{ℕ, _≤_, _<_}
 use mathlib.Core.Path.{_≡_, _∙_, ap, sym}
 use mathlib.Core.Bool.{Bool, true, false}
-use lib.Dec.{leb}
 use borrow.Author.Tests.{le-leb, lt-leb}
 use Rattle.colour.specs.Colour.{apart}
 use Rattle.colour.specs.Region.{closestCode, farthestCode}

@@ -1,10 +1,9 @@
 -- The child has the side that the table gives at the next depth, and two such sides fit where the parent does.
 use borrow.Author.Needs.{needs}
-use mathlib.Core.Path.{_≡_}
 use Prim.Native.Nat.{_+_, _≤_}
 use native.Mathlib.Numerals.{add-one}
 use Rattle.colour.specs.Colour.{Channel, codeIn, colourBy}
-use Rattle.colour.specs.Octant.{weight, childLow, childCube, Within}
+use Rattle.colour.specs.Octant.{weight, childLow, childCube}
 use Rattle.colour.proofs.Arith.Cubes.{child-room, child-within, is-within}
 use Rattle.colour.proofs.octant.child.Statement.{statement}
 use Rattle.colour.proofs.octant.child.Tie as tie

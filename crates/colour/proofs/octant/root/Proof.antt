@@ -1,7 +1,6 @@
 -- Each least code is 0, and the root's side is 65536.
-use native.Mathlib.Omega.{arith}
 use mathlib.Core.Path.{refl}
-use Rattle.colour.specs.Colour.{codeIn, colourBy, black}
+use Rattle.colour.specs.Colour.{colourBy, black}
 use Rattle.colour.specs.Octant.{rootCube}
 use Rattle.colour.proofs.Arith.Cubes.{root-within}
 use Rattle.colour.proofs.octant.root.Statement.{statement}

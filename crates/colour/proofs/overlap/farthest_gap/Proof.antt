@@ -1,6 +1,5 @@
 -- The test on the two differences picks the case of the farthest code.
 use borrow.Author.Needs.{needs}
-use native.Mathlib.Omega.{arith}
 use Rattle.colour.proofs.Arith.Gaps.{farthest-high, farthest-low}
 use Rattle.colour.specs.Octant.{lastCode}
 use Rattle.colour.proofs.overlap.farthest_gap.Statement.{statement}
