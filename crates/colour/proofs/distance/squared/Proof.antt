@@ -18,7 +18,10 @@ squares-requires c κs = search needs
 
 returns : tie.Need-returns
 unfolding distance sumOf codeIn
-returns c = (cc, c .squares .ensures .1)
+returns c = (
+  rw (c .squares .ensures .0, c .before .difference3 .ensures .0, c .before .before .difference2 .ensures .0, c .before .before .before .difference .ensures .0),
+  c .squares .ensures .1,
+)
 
 pub squared-spec : {M : Type 1} → statement M
 squared-spec =

@@ -21,7 +21,7 @@ add-result-2 : tie.Need-add-result-2
 add-result-2 c = omega (arith, squares-most (c .before .before .before .pre))
 
 returns : tie.Need-returns
-returns c = (cc, omega (arith, squares-most (c .before .before .before .pre)))
+returns c = omega (arith, squares-most (c .before .before .before .pre))
 
 pub squares-spec : {M : Type 1} → statement M
 squares-spec =

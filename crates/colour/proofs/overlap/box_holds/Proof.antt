@@ -16,7 +16,7 @@ between-requires-3 c κs = search needs
 
 returns : tie.Need-returns
 unfolding holds each codeIn
-returns c = cc
+returns c = rw (c .between3 .ensures, c .before .between2 .ensures, c .before .before .between .ensures)
 
 pub box-holds-spec : {M : Type 1} → statement M
 box-holds-spec =

@@ -24,7 +24,7 @@ all-between-requires-3 c κs = room _ _ (c .before .before .before .before .pre)
 
 returns : tie.Need-returns
 unfolding inside each codeIn
-returns c = cc
+returns c = rw (c .all-between3 .ensures, c .before .all-between2 .ensures, c .before .before .all-between .ensures, c .before .before .before .side .ensures .0)
 
 pub box-inside-spec : {M : Type 1} → statement M
 box-inside-spec =

@@ -24,7 +24,7 @@ some-between-requires-3 c κs = room _ _ (c .before .before .before .before .pre
 
 returns : tie.Need-returns
 unfolding overlaps each codeIn
-returns c = cc
+returns c = rw (c .some-between3 .ensures, c .before .some-between2 .ensures, c .before .before .some-between .ensures, c .before .before .before .side .ensures .0)
 
 pub box-overlaps-spec : {M : Type 1} → statement M
 box-overlaps-spec =

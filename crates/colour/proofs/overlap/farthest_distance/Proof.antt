@@ -28,7 +28,10 @@ squares-requires c κs = search needs
 
 returns : tie.Need-returns
 unfolding distance sumOf farthest colourBy codeIn
-returns c = (cc, c .squares .ensures .1)
+returns c = (
+  rw (c .squares .ensures .0, c .before .farthest-gap3 .ensures .0, c .before .before .farthest-gap2 .ensures .0, c .before .before .before .farthest-gap .ensures .0, c .before .before .before .before .side .ensures .0),
+  c .squares .ensures .1,
+)
 
 pub farthest-distance-spec : {M : Type 1} → statement M
 farthest-distance-spec =

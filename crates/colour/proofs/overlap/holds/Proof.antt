@@ -23,7 +23,7 @@ box-holds-requires c κs = search needs
 
 returns : tie.Need-returns
 unfolding holds
-returns c = rw (c .before .before .before .region .given .1) (cc)
+returns c = rw (c .before .before .before .region .given .1, c .square .ensures, c .before .squared .ensures .0)
 
 returns-2 : tie.Need-returns-2
 unfolding holds

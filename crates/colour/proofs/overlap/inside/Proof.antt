@@ -23,7 +23,7 @@ box-inside-requires c κs = search needs
 
 returns : tie.Need-returns
 unfolding inside
-returns c = rw (c .before .before .before .region .given .1) (cc)
+returns c = rw (c .before .before .before .region .given .1, c .square .ensures, c .before .farthest-distance .ensures .0)
 
 returns-2 : tie.Need-returns-2
 unfolding inside

@@ -23,7 +23,7 @@ box-overlaps-requires c κs = search needs
 
 returns : tie.Need-returns
 unfolding overlaps
-returns c = rw (c .before .before .before .region .given .1) (cc)
+returns c = rw (c .before .before .before .region .given .1, c .square .ensures, c .before .closest-distance .ensures .0)
 
 returns-2 : tie.Need-returns-2
 unfolding overlaps
