@@ -1,7 +1,7 @@
 -- The square of a 32-bit number is at most that of the largest one, which fits 64 bits.
 use borrow.Author.Needs.{needs}
-use native.Mathlib.Omega.{arith}
 use Prim.Native.Nat.{_≤_}
+use native.Mathlib.Omega.{arith}
 use Rattle.colour.proofs.Arith.Codes.{square-most}
 use Rattle.colour.proofs.distance.square.Statement.{statement}
 use Rattle.colour.proofs.distance.square.Tie as tie

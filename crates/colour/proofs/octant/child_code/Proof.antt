@@ -1,7 +1,7 @@
 -- The bit is 0 or 1, so the offset is at most the side.
 use borrow.Author.Needs.{needs}
-use native.Mathlib.Omega.{arith}
 use Prim.Native.Nat.{_/_}
+use native.Mathlib.Omega.{arith}
 use Rattle.colour.proofs.Arith.Codes.{bit-most}
 use Rattle.colour.proofs.octant.child_code.Statement.{statement}
 use Rattle.colour.proofs.octant.child_code.Tie as tie

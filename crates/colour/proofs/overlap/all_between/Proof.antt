@@ -1,8 +1,8 @@
 -- The greatest code of the octant is from + side - 1.
 use borrow.Author.Needs.{needs}
 use Rattle.colour.specs.Octant.{lastCode}
-use Rattle.colour.proofs.overlap.all_between.Tie as tie
 use Rattle.colour.proofs.overlap.all_between.Statement.{statement}
+use Rattle.colour.proofs.overlap.all_between.Tie as tie
 
 add-result : tie.Need-add-result
 add-result c = search needs

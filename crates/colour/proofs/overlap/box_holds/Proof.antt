@@ -1,7 +1,7 @@
 -- The test of each channel.
 use borrow.Author.Needs.{needs}
-use Rattle.colour.specs.Region.{holds}
 use Rattle.colour.specs.Colour.{codeIn, each}
+use Rattle.colour.specs.Region.{holds}
 use Rattle.colour.proofs.overlap.box_holds.Statement.{statement}
 use Rattle.colour.proofs.overlap.box_holds.Tie as tie
 

@@ -1,7 +1,7 @@
 -- The test of each channel, with the side that the table gives.
 use Rattle.colour.specs.Colour.{Channel, codeIn, each}
-use Rattle.colour.specs.Region.{inside}
 use Rattle.colour.specs.Octant.{depths}
+use Rattle.colour.specs.Region.{inside}
 use Rattle.colour.proofs.Arith.Cubes.{room}
 use Rattle.colour.proofs.overlap.box_inside.Statement.{statement}
 use Rattle.colour.proofs.overlap.box_inside.Tie as tie

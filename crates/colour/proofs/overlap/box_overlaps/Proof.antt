@@ -1,8 +1,8 @@
 -- The test of each channel, with the side that the table gives.
 use Rattle.colour.specs.Colour.{Channel, codeIn, each}
+use Rattle.colour.specs.Octant.{depths}
 use Rattle.colour.specs.Region.{overlaps}
 use Rattle.colour.proofs.Arith.Cubes.{room}
-use Rattle.colour.specs.Octant.{depths}
 use Rattle.colour.proofs.overlap.box_overlaps.Statement.{statement}
 use Rattle.colour.proofs.overlap.box_overlaps.Tie as tie
 

@@ -1,8 +1,8 @@
 -- Each test picks the case of the closest code; the rest is sums and differences.
 use borrow.Author.Needs.{needs}
-use Rattle.colour.proofs.Arith.Gaps.{closest-low, closest-high, closest-self}
 use Rattle.colour.specs.Colour.{apart}
 use Rattle.colour.specs.Octant.{lastCode}
+use Rattle.colour.proofs.Arith.Gaps.{closest-low, closest-high, closest-self}
 use Rattle.colour.proofs.overlap.closest_gap.Statement.{statement}
 use Rattle.colour.proofs.overlap.closest_gap.Tie as tie
 

@@ -1,6 +1,6 @@
 -- By cases on the region: each case is the definition's, at what the callee ensures.
-use mathlib.Core.Path.{subst}
 use borrow.Author.Needs.{needs}
+use mathlib.Core.Path.{subst}
 use Rattle.colour.specs.Region.{holds, Fair}
 use Rattle.colour.proofs.overlap.holds.Statement.{statement}
 use Rattle.colour.proofs.overlap.holds.Tie as tie

@@ -1,9 +1,9 @@
 -- By cases on the region: each case is the definition's, at what the callee ensures.
-use mathlib.Core.Path.{subst}
 use borrow.Author.Needs.{needs}
+use mathlib.Core.Path.{subst}
 use Rattle.colour.specs.Region.{inside, Fair}
-use Rattle.colour.proofs.overlap.inside.Tie as tie
 use Rattle.colour.proofs.overlap.inside.Statement.{statement}
+use Rattle.colour.proofs.overlap.inside.Tie as tie
 
 enum-known-region : tie.Need-enum-known-region
 enum-known-region c = search needs
