@@ -1,4 +1,4 @@
--- Laws on codes, cubes and tables that the functions' proofs cite.
+-- Laws on codes, cubes, base-8 digits and tables that the functions' proofs cite.
 pub mod Base8
 pub mod Codes
 pub mod Cubes
