@@ -2,7 +2,6 @@
 pub mod Value
 pub mod Fields
 pub mod Shown
-pub mod Channels
 pub mod Answers
 pub mod Laws
 pub mod Queries

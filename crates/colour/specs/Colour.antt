@@ -36,7 +36,7 @@ isCode x = leb x 65535
 unfoldable pub codesFit : Colour → Bool
 codesFit c = each (λ h. isCode (codeIn h c))
 
--- The same, as the code asks it of a colour; `in-range` and `fit` of proofs/Arith/Codes.antt show the two to agree.
+-- The same, as the code asks it of a colour; `in-range` and `fit` of proofs/Laws/Channels.antt show the two to agree.
 pub record InRange (c : Colour) : Type 0 where
   pub red : c .red ≤ 65535
   pub green : c .green ≤ 65535

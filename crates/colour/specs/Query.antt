@@ -7,13 +7,12 @@ use Rattle.colour.specs.declared.Colour.{Colour}
 use Rattle.colour.specs.declared.PanelColour.{PanelColour}
 use Rattle.colour.specs.declared.Query.{Query}
 use Rattle.colour.specs.declared.Query.the-variants as Q
-use Rattle.colour.specs.declared.Region.{Region}
 use Rattle.colour.specs.declared.Region.the-variants as R
 use Rattle.colour.specs.declared.panel.Sphere.{Sphere}
 use Rattle.colour.specs.declared.panel.Sphere.the-variants as S
 use Rattle.colour.specs.declared.panel.Asked.{Asked}
 use Rattle.colour.specs.declared.panel.Asked.the-variants as A
-use Rattle.colour.specs.Colour.{Channel, codeIn, each}
+use Rattle.colour.specs.Colour.{codeIn, each}
 use Rattle.colour.specs.Panel.{panelGood, radiusGood, codesOf, codeOf}
 
 -- A box needs low ≤ high in each channel, as codes.

@@ -5,7 +5,7 @@ use lib.Dec.{leb, ltb}
 use Rattle.colour.specs.declared.Colour.{Colour}
 use Rattle.colour.specs.declared.Region.{Region}
 use Rattle.colour.specs.declared.Region.the-variants.{Ball, Box}
-use Rattle.colour.specs.Colour.{Channel, codeIn, colourBy, each, apart, distance, InRange}
+use Rattle.colour.specs.Colour.{codeIn, colourBy, each, apart, distance, InRange}
 use Rattle.colour.specs.Octant.{lastCode}
 
 -- The code from low to high that is closest to x, and the one that is farthest.

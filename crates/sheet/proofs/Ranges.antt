@@ -1,13 +1,12 @@
 -- A good line has its tag and its codes in range (document 01, "Sheets").
 use Prim.Native.Nat.{ℕ, zero, suc, _<_, _^_}
-use mathlib.Core.Bool.{Bool, true, false, _&&_}
+use mathlib.Core.Bool.{Bool, true, false, _&&_, and-eq-true-iff}
 use mathlib.Core.List.{List, [], _∷_}
 use mathlib.Core.Option.{Option, none, some}
 use mathlib.Core.Path.{_≡_, refl}
 use lib.Dec.{ltb}
 use borrow.Author.Tests.{ltb-true}
 use Rattle.colour.specs.Colour.{codesFit}
-use Rattle.colour.proofs.Laws.Channels.{and-both}
 use Rattle.sheet.specs.Line.{Line, lineFrom, lineFormed, lineOf}
 use Rattle.sheet.specs.Sheet.{linePart, linesFrom, linesBy, lineCount, linesOf}
 
@@ -39,7 +38,7 @@ from-ranged (some t) (some r) (some g) (some b) n = go (ltb t (2 ^ 32) && codesF
     go : (q : Bool) → (ltb t (2 ^ 32) && codesFit (record { red = r; green = g; blue = b })) ≡ q
         → Ranged (lineFrom (some t) (some r) (some g) (some b) n)
     go true e =
-        let h = and-both (ltb t (2 ^ 32)) _ .0 e in
+        let h = and-eq-true-iff (ltb t (2 ^ 32)) _ .0 e in
         rw (e, lineFrom) (record { tag = ltb-true t (2 ^ 32) (h .0); codes = h .1 })
     go false e = rw (e, lineFrom) tt
 

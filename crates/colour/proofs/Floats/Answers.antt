@@ -13,7 +13,7 @@ use Rattle.colour.specs.declared.panel.Codes.the-variants as Cs
 use Rattle.colour.specs.declared.panel.Floats.{Floats}
 use Rattle.colour.specs.Colour.{Channel, Red, Green, Blue, each, codesFit}
 use Rattle.colour.specs.Panel.{codeOf, answerIf, channelGood, panelGood, codesOf, codesIf, codesAnswer, floatsToCodes, floatsIf, floatsAnswer, codesToFloats}
-use Rattle.colour.proofs.Floats.Channels.{each-no}
+use Rattle.colour.proofs.Laws.Channels.{each-no}
 
 -- A float's code tells that the float is good, and a refusal that it is not.
 pub code-told : (b : Bool) (v : Float) (k : ℕ) → answerIf b v ≡ C.Is k → (b ≡ true) × (codeOf v ≡ k)

@@ -1,7 +1,7 @@
 -- The definitions of Panel say the paper's words, of a float of value m * up e / down e, with its sign; and how great codes get.
 -- (Every code shown is exact and reads as the same code: `shown-meets` of Floats.Shown.)
 use mathlib.Core.Path.{_≡_, refl, sym, _∙_}
-use mathlib.Core.Bool.{Bool, true, false, not, _||_, true≢false}
+use mathlib.Core.Bool.{Bool, true, false, not, _||_, true≢false, and-eq-true-iff}
 use mathlib.Core.Logic.{_⊎_, inl, inr, _↔_}
 use Prim.Native.Nat.{ℕ, _*_, _≤_, _<_}
 use native.Mathlib.Nat.{le-div-iff-mul-le, div-lt-iff-lt-mul, div-mul-le-self, mul-assoc, mul-lt-mul-of-pos-left}
@@ -14,7 +14,7 @@ use lib.Ieee.Fits.{down-pos}
 use Rattle.colour.specs.declared.PanelColour.{PanelColour}
 use Rattle.colour.specs.Colour.{Channel, Red, Green, Blue, each, codeIn, isCode, codesFit}
 use Rattle.colour.specs.Panel.{below, codeOf, channelGood, panelGood, codesOf, shown}
-use Rattle.colour.proofs.Floats.Channels.{and-left, and-right, each-at, each-yes}
+use Rattle.colour.proofs.Laws.Channels.{each-every}
 use Rattle.colour.proofs.Floats.Answers.{floatIn}
 
 -- The code of v is the greatest k with k ≤ 65,536 × v.
@@ -38,8 +38,8 @@ pub below-means : (limit : ℕ) (s : Bool) (m : ℕ) (e : ℤ)
 unfolding below
 below-means limit s m e = (
   (λ h. (
-    plus-or-zero s m (and-left (not s || eqb m 0) (ltb (m * up e) (limit * down e)) h),
-    ltb-true (m * up e) (limit * down e) (and-right (not s || eqb m 0) (ltb (m * up e) (limit * down e)) h),
+    plus-or-zero s m (and-eq-true-iff (not s || eqb m 0) (ltb (m * up e) (limit * down e)) .0 h .0),
+    ltb-true (m * up e) (limit * down e) (and-eq-true-iff (not s || eqb m 0) (ltb (m * up e) (limit * down e)) .0 h .1),
   )),
   λ h. rw (plus-or-zero-test s m (h .0), lt-ltb (m * up e) (limit * down e) (h .1)),
 )
@@ -68,9 +68,9 @@ code-in Blue p = refl
 pub good-fit : (p : PanelColour) → panelGood p ≡ true → codesFit (codesOf p) ≡ true
 unfolding panelGood each channelGood isCode codesFit
 good-fit p e =
-    each-yes (λ h. isCode (codeIn h (codesOf p)))
+    each-every (λ h. isCode (codeIn h (codesOf p))) .1
     (λ h. rw (code-in h p)
-    (le-leb (codeOf (floatIn h p)) 65535 (omega (arith, code-below 1 (floatIn h p) (each-at (λ h. channelGood (floatIn h p)) e h)))))
+    (le-leb (codeOf (floatIn h p)) 65535 (omega (arith, code-below 1 (floatIn h p) (each-every (λ h. channelGood (floatIn h p)) .0 e h)))))
 
 -- The code 0 is shown as plus zero, so what a refusal shows is 0 in each channel.
 pub shown-zero : shown 0 ≡ fin false 0 (pos 0)

@@ -1,6 +1,6 @@
 -- A query taken apart: from what its floats' answers tell to what it asks.
 use mathlib.Core.Path.{_≡_, refl, _∙_}
-use mathlib.Core.Bool.{Bool, true, false, _&&_, and-false}
+use mathlib.Core.Bool.{Bool, true, false, _&&_, and-false, and-eq-true-iff}
 use Prim.Native.Nat.{ℕ, _<_}
 use native.Mathlib.Omega.{arith}
 use lib.Ieee.{Float}
@@ -19,7 +19,6 @@ use Rattle.colour.specs.Colour.{codesFit}
 use Rattle.colour.specs.Panel.{panelGood, radiusGood, codesOf, codeOf, answerIf, codesIf}
 use Rattle.colour.specs.Query.{ordered, queryGood, inCodes, askedOf, askedNumber, sphereIf}
 use Rattle.colour.proofs.Floats.Answers.{code-told, code-refused, codes-told, codes-refused}
-use Rattle.colour.proofs.Floats.Channels.{and-left, and-right}
 use Rattle.colour.proofs.Floats.Laws.{code-below, good-fit}
 
 -- A good query is answered in its codes, any other is refused.
@@ -129,7 +128,7 @@ AskedFits A.Refused = Unit
 
 sphere-fits : (p : PanelColour) (v : Float) → (panelGood p && radiusGood v) ≡ true → SphereFits (codesOf p) (codeOf v)
 unfolding radiusGood
-sphere-fits p v e = (good-fit p (and-left (panelGood p) (radiusGood v) e), code-below 2 v (and-right (panelGood p) (radiusGood v) e))
+sphere-fits p v e = (good-fit p (and-eq-true-iff (panelGood p) (radiusGood v) .0 e .0), code-below 2 v (and-eq-true-iff (panelGood p) (radiusGood v) .0 e .1))
 
 in-codes-fits : (q : Query) → queryGood q ≡ true → AskedFits (inCodes q)
 unfolding queryGood inCodes
@@ -137,10 +136,10 @@ in-codes-fits (Q.Ball p v) e = sphere-fits p v e
 in-codes-fits (Q.Nearest p v) e = sphere-fits p v e
 in-codes-fits (Q.Box low high) e =
     let o = ordered (codesOf low) (codesOf high) in
-    let both = and-left (panelGood low && panelGood high) o e in (
-      good-fit low (and-left (panelGood low) (panelGood high) both),
-      good-fit high (and-right (panelGood low) (panelGood high) both),
-      and-right (panelGood low && panelGood high) o e,
+    let both = and-eq-true-iff (panelGood low && panelGood high) o .0 e .0 in (
+      good-fit low (and-eq-true-iff (panelGood low) (panelGood high) .0 both .0),
+      good-fit high (and-eq-true-iff (panelGood low) (panelGood high) .0 both .1),
+      and-eq-true-iff (panelGood low && panelGood high) o .0 e .1,
     )
 
 pub asked-fits : (q : Query) → AskedFits (askedOf q)

@@ -1,55 +1,66 @@
 -- What is true of the three channels, stated once over the channel, so that no other law is copied three times.
 use Prim.Native.Nat.{ℕ, _+_, _≤_, _<_}
-use mathlib.Core.Bool.{Bool, true, false, _&&_, false≢true}
-use mathlib.Core.Path.{_≡_, refl}
+use mathlib.Core.Bool.{Bool, true, false, _&&_, and-false, and-eq-true-iff}
+use mathlib.Core.Path.{_≡_, refl, sym}
 use mathlib.Core.Logic.{_↔_}
 use native.Mathlib.Omega.{arith}
 use lib.Dec.{leb, ltb}
-use borrow.Author.Tests.{ltb-true, leb-true, lt-ltb, le-leb}
+use borrow.Author.Tests.{ltb-true, leb-true, lt-ltb, le-leb, lt-leb}
 use Rattle.colour.specs.declared.Colour.{Colour}
-use Rattle.colour.specs.Colour.{Channel, codeIn, colourBy, each, sumOf, isCode, codesFit}
+use Rattle.colour.specs.Colour.{Channel, Red, Green, Blue, codeIn, colourBy, each, sumOf, isCode, codesFit, InRange}
 use Rattle.colour.specs.Octant.{cubeHolds}
-
--- Both tests of a conjunction pass exactly when it does.
-pub and-both : (a b : Bool) → ((a && b) ≡ true) ↔ ((a ≡ true) × (b ≡ true))
-and-both true b = (λ e. (refl, e), λ e. e .1)
-and-both false b = (λ e. absurd (false≢true e), λ e. e .0)
 
 -- A test holds in each channel exactly when it holds in every channel h.
 pub each-every : (f : Channel → Bool) → (each f ≡ true) ↔ ((h : Channel) → f h ≡ true)
 unfolding each
 each-every f = (
-  λ e. let rg = and-both (f Channel.Red && f Channel.Green) (f Channel.Blue) .0 e in
-      let r = and-both (f Channel.Red) (f Channel.Green) .0 (rg .0) in elim [ Channel.Red ↦ r .0 | Channel.Green ↦ r .1 | Channel.Blue ↦ rg .1 ],
-  λ e. and-both (f Channel.Red && f Channel.Green) (f Channel.Blue) .1 (and-both (f Channel.Red) (f Channel.Green) .1 (e Channel.Red, e Channel.Green), e Channel.Blue),
+  λ e. let rg = and-eq-true-iff (f Red && f Green) (f Blue) .0 e in
+      let r = and-eq-true-iff (f Red) (f Green) .0 (rg .0) in elim [ Red ↦ r .0 | Green ↦ r .1 | Blue ↦ rg .1 ],
+  λ e. and-eq-true-iff (f Red && f Green) (f Blue) .1 (and-eq-true-iff (f Red) (f Green) .1 (e Red, e Green), e Blue),
 )
+
+-- One channel that says no settles it.
+pub each-no : (f : Channel → Bool) (h : Channel) → f h ≡ false → each f ≡ false
+unfolding each
+each-no f Red e = rw e
+each-no f Green e = rw (e, and-false (f Red))
+each-no f Blue e = rw (e, and-false (f Red && f Green))
+
+-- An order in each channel, tested in turn: one that says no settles it, and where two say yes the third does.
+module _ (f g : Channel → ℕ) where
+  pub turn-no : (h : Channel) → g h < f h → false ≡ each (λ h. leb (f h) (g h))
+  turn-no h e = sym (each-no (λ h. leb (f h) (g h)) h (lt-leb (f h) (g h) e))
+
+  pub turn-last : f Red ≤ g Red → f Green ≤ g Green → leb (f Blue) (g Blue) ≡ each (λ h. leb (f h) (g h))
+  unfolding each
+  turn-last r s = rw (le-leb (f Red) (g Red) r, le-leb (f Green) (g Green) s)
 
 -- Tests that agree in every channel agree in each.
 pub each-same : (f g : Channel → Bool) → ((h : Channel) → f h ≡ g h) → each f ≡ each g
 unfolding each
-each-same f g e = cc (e Channel.Red, e Channel.Green, e Channel.Blue)
+each-same f g e = cc (e Red, e Green, e Blue)
 
 -- A sum over the channels grows with each of its terms.
 pub sum-grows : (f g : Channel → ℕ) → ((h : Channel) → f h ≤ g h) → sumOf f ≤ sumOf g
 unfolding sumOf
-sum-grows f g e = omega (arith, e Channel.Red, e Channel.Green, e Channel.Blue)
+sum-grows f g e = omega (arith, e Red, e Green, e Blue)
 
 -- Sums with equal terms are equal.
 pub sum-same : (f g : Channel → ℕ) → ((h : Channel) → f h ≡ g h) → sumOf f ≡ sumOf g
 unfolding sumOf
-sum-same f g e = cc (e Channel.Red, e Channel.Green, e Channel.Blue)
+sum-same f g e = cc (e Red, e Green, e Blue)
 
 -- The colour with the code f h in each channel h has that code there.
 pub code-by : (f : Channel → ℕ) (h : Channel) → codeIn h (colourBy f) ≡ f h
 unfolding codeIn colourBy
-code-by f Channel.Red = refl
-code-by f Channel.Green = refl
-code-by f Channel.Blue = refl
+code-by f Red = refl
+code-by f Green = refl
+code-by f Blue = refl
 
 -- Colours with the same codes are the same.
 pub same-codes : (a b : Colour) → ((h : Channel) → codeIn h a ≡ codeIn h b) → a ≡ b
 unfolding codeIn
-same-codes a b e = λ i. record { red = e Channel.Red i; green = e Channel.Green i; blue = e Channel.Blue i }
+same-codes a b e = λ i. record { red = e Red i; green = e Green i; blue = e Blue i }
 
 -- A code lies in the half-open stretch of s codes from low.
 pub record Among (s low x : ℕ) : Type 0 where
@@ -60,12 +71,21 @@ pub record Among (s low x : ℕ) : Type 0 where
 pub cube-among : (s : ℕ) (low c : Colour) → (cubeHolds s low c ≡ true) ↔ ((h : Channel) → Among s (codeIn h low) (codeIn h c))
 unfolding cubeHolds
 cube-among s low c = (
-  λ e h. let t = and-both (leb (codeIn h low) (codeIn h c)) (ltb (codeIn h c) (codeIn h low + s)) .0 (each-every _ .0 e h) in
+  λ e h. let t = and-eq-true-iff (leb (codeIn h low) (codeIn h c)) (ltb (codeIn h c) (codeIn h low + s)) .0 (each-every _ .0 e h) in
       record { least = leb-true _ _ (t .0); below = ltb-true _ _ (t .1) },
-  λ m. each-every _ .1 (λ h. and-both (leb (codeIn h low) (codeIn h c)) (ltb (codeIn h c) (codeIn h low + s)) .1 (le-leb _ _ (m h .least), lt-ltb _ _ (m h .below))),
+  λ m. each-every _ .1 (λ h. and-eq-true-iff (leb (codeIn h low) (codeIn h c)) (ltb (codeIn h c) (codeIn h low + s)) .1 (le-leb _ _ (m h .least), lt-ltb _ _ (m h .below))),
 )
 
 -- "A code is a whole number 0..65,535": what a colour in range is.
 pub fit-codes : (c : Colour) → (codesFit c ≡ true) ↔ ((h : Channel) → codeIn h c ≤ 65535)
 unfolding codesFit isCode
 fit-codes c = (λ e h. leb-true _ _ (each-every _ .0 e h), λ e. each-every _ .1 (λ h. le-leb _ _ (e h)))
+
+-- What the questions ask of a colour and what the code requires are the same.
+pub in-range : (c : Colour) → codesFit c ≡ true → InRange c
+unfolding codeIn
+in-range c e = let code = fit-codes c .0 e in record { red = code Red; green = code Green; blue = code Blue }
+
+pub fit : (c : Colour) → InRange c → codesFit c ≡ true
+unfolding codeIn
+fit c i = fit-codes c .1 (elim [ Red ↦ i .red | Green ↦ i .green | Blue ↦ i .blue ])

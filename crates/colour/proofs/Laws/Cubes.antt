@@ -1,12 +1,15 @@
 -- The cubes that stand for octants in the code (document 01, "Colours and octants"): their sides, and that the root and the children are octants.
-use Prim.Native.Nat.{ℕ, suc, _+_, _-_, _^_, _≤_, _<_}
-use mathlib.Core.Path.{_≡_, refl, ap, _∙_}
-use native.Mathlib.Nat.{two-pow-succ}
+use Prim.Native.Nat.{ℕ, suc, _+_, _-_, _/_, _^_, _≤_, _<_}
+use mathlib.Core.Path.{_≡_, refl, ap, _∙_, subst⁻¹}
+use native.Mathlib.Nat.{two-pow-succ, pow-le-pow-right}
+use native.Mathlib.Numerals.{add-one}
 use native.Mathlib.Omega.{arith}
 use lib.Pow.{pow-pos}
 use Rattle.colour.specs.declared.Cube.{Cube}
-use Rattle.colour.specs.Octant.{depths, sideAt, children, Octant, root, child, childCube, rootCube, Within}
-use Rattle.colour.proofs.Laws.Octants.{octant-lies}
+use Rattle.colour.specs.Colour.{Channel, codeIn, black}
+use Rattle.colour.specs.Octant.{depths, sideAt, weight, children, Octant, root, child, childCube, rootCube, Within}
+use Rattle.colour.proofs.Laws.Channels.{code-by}
+use Rattle.colour.proofs.Laws.Octants.{octant-lies, child-code, bit-piece}
 
 -- "The sides at depths 0 to 16": the root's is 65,536, the last is 1, none is 0.
 pub side-root : sideAt 0 ≡ 65536
@@ -28,6 +31,38 @@ side-half d h = ap (λ (j : ℕ). 2 ^ j) e ∙ two-pow-succ (16 - suc d)
   where
     e : 16 - d ≡ suc (16 - suc d)
     e = omega arith
+
+pub side-most : (d : ℕ) → sideAt d ≤ 65536
+unfolding sideAt depths
+side-most d = let h : 16 - d ≤ 16 = omega arith in pow-le-pow-right (omega arith) h
+
+pub is-side : (d : ℕ) {s : ℕ} → s ≡ sideAt d → (s ≡ sideAt d) × ((1 ≤ s) × (s ≤ 65536))
+is-side d e = (e, rw e (side-pos d, side-most d))
+
+-- A cube's codes in a channel, for a side that is known to be its.
+pub room : (c : Cube) (s : ℕ) → Within c → s ≡ sideAt (c .depth) → (h : Channel) → (1 ≤ s) × (codeIn h (c .low) + s ≤ 65536)
+room c s w e h = rw e (side-pos _, w .low h)
+
+-- Two children stand side by side within their parent; the code has the child's depth as d + 1.
+pub child-room : (c : Cube) (s : ℕ) → Within c → c .depth < 16 → s ≡ sideAt (c .depth + 1) → (h : Channel) → codeIn h (c .low) + (s + s) ≤ 65536
+unfolding depths
+child-room c s w d e h = omega (arith, e ∙ ap sideAt (add-one (c .depth)), w .low h, side-half (c .depth) d)
+
+pub child-within : (c : Cube) (k : ℕ) → Within c → c .depth < 16 → Within (childCube c k)
+unfolding childCube depths
+child-within c k w d = record {
+  depth = omega arith;
+  low = λ h. rw (child-code (sideAt (suc (c .depth))) k (c .low) h)
+      (omega (arith, w .low h, side-half (c .depth) d, bit-piece (k / weight h) (sideAt (suc (c .depth)))));
+}
+
+pub root-within : Within rootCube
+unfolding rootCube black sideAt depths
+root-within = record { depth = omega arith; low = λ h. rw (code-by (λ g. 0) h) (omega arith) }
+
+-- A cube that is equal to one within the root lies within it.
+pub is-within : {c d : Cube} → d ≡ c → Within c → (d ≡ c) × Within d
+is-within e w = (e, subst⁻¹ Within e w)
 
 -- A cube of the code that is an octant.
 pub record IsOctant (c : Cube) : Type 0 where

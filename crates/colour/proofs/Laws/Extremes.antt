@@ -1,53 +1,21 @@
 -- Closest and farthest colours of a cube, and how a cube lies to a ball or a box (document 01, "Picks").
-use Prim.Native.Nat.{ℕ, _-_, _*_, max, _≤_, _<_}
-use mathlib.Core.Bool.{Bool, true, false, _&&_}
-use mathlib.Core.Path.{_≡_, refl, sym, ap, _∙_}
+use Prim.Native.Nat.{ℕ, max, _≤_, _<_}
+use mathlib.Core.Bool.{Bool, true, false, _&&_, and-eq-true-iff}
+use mathlib.Core.Path.{_≡_, refl, sym, _∙_}
 use mathlib.Core.Logic.{_↔_}
-use native.Mathlib.Nat.{add-comm, mul-le-mul, lt-of-le-of-lt}
+use native.Mathlib.Nat.{lt-of-le-of-lt}
 use native.Mathlib.Omega.{arith}
 use lib.Dec.{leb}
 use borrow.Author.Tests.{ltb-true, leb-true, leb-false, lt-ltb, le-leb}
 use Rattle.colour.specs.declared.Colour.{Colour}
 use Rattle.colour.specs.declared.Region.{Region}
 use Rattle.colour.specs.declared.Region.the-variants.{Ball, Box}
-use Rattle.colour.specs.Colour.{Channel, codeIn, colourBy, each, sumOf, codesFit, black, apart, distance}
+use Rattle.colour.specs.Colour.{Channel, codeIn, colourBy, each, apart, distance}
 use Rattle.colour.specs.Octant.{cubeHolds, lastCode}
 use Rattle.colour.specs.Region.{closestCode, farthestCode, closest, farthest, holds, overlaps, inside}
 use Rattle.colour.specs.Query.{ordered}
-use Rattle.colour.proofs.Laws.Channels.{Among, and-both, each-every, sum-grows, sum-same, code-by, cube-among, fit-codes}
-
--- d² grows with each of the three code differences.
-pub distance-grows : (a b c d : Colour)
-    → ((h : Channel) → apart (codeIn h a) (codeIn h b) ≤ apart (codeIn h c) (codeIn h d)) → distance a b ≤ distance c d
-unfolding distance
-distance-grows a b c d e = sum-grows _ _ (λ h. mul-le-mul (e h) (e h))
-
--- d² is symmetric.
-pub distance-symmetric : (a b : Colour) → distance a b ≡ distance b a
-unfolding distance apart
-distance-symmetric a b =
-    sum-same _ _ (λ h. ap (λ (n : ℕ). n * n) (add-comm (codeIn h a - codeIn h b) (codeIn h b - codeIn h a)))
-
--- A colour is at the distance 0 from itself.
-pub distance-self : (a : Colour) → distance a a ≡ 0
-unfolding distance apart sumOf
-distance-self a = sum-same _ (λ h. 0) (λ h. ap (λ (n : ℕ). n * n) (apart-self (codeIn h a)))
-  where
-    apart-self : (x : ℕ) → apart x x ≡ 0
-    apart-self x = omega arith
-
--- "d² reaches 12,884,508,675": it is no more for colours in range.
-pub distance-bound : (a b : Colour) → codesFit a ≡ true → codesFit b ≡ true → distance a b ≤ 12884508675
-unfolding distance apart sumOf
-distance-bound a b fa fb = sum-grows _ (λ h. 65535 * 65535) (λ h. mul-le-mul (near h) (near h))
-  where
-    near : (h : Channel) → apart (codeIn h a) (codeIn h b) ≤ 65535
-    near h = omega (arith, fit-codes a .0 fa h, fit-codes b .0 fb h)
-
--- It does reach that, from black to white.
-pub distance-reached : distance black (colourBy (λ h. 65535)) ≡ 12884508675
-unfolding distance apart sumOf black colourBy codeIn
-distance-reached = refl
+use Rattle.colour.proofs.Laws.Distance.{distance-grows}
+use Rattle.colour.proofs.Laws.Channels.{Among, each-every, code-by, cube-among}
 
 -- A code r of a stretch of s codes from low such that no code y of the stretch is closer to x; and one such that none is farther.
 pub record Closest (s low x r : ℕ) : Type 0 where
@@ -107,8 +75,8 @@ farthest-colour c s low p =
 -- Two orders tested in each channel.
 orders : (a b c d : Channel → ℕ) → (each (λ h. leb (a h) (b h) && leb (c h) (d h)) ≡ true) ↔ ((h : Channel) → (a h ≤ b h) × (c h ≤ d h))
 orders a b c d = (
-  λ e h. let t = and-both (leb (a h) (b h)) (leb (c h) (d h)) .0 (each-every _ .0 e h) in (leb-true _ _ (t .0), leb-true _ _ (t .1)),
-  λ m. each-every _ .1 (λ h. and-both (leb (a h) (b h)) (leb (c h) (d h)) .1 (le-leb _ _ (m h .0), le-leb _ _ (m h .1))),
+  λ e h. let t = and-eq-true-iff (leb (a h) (b h)) (leb (c h) (d h)) .0 (each-every _ .0 e h) in (leb-true _ _ (t .0), leb-true _ _ (t .1)),
+  λ m. each-every _ .1 (λ h. and-eq-true-iff (leb (a h) (b h)) (leb (c h) (d h)) .1 (le-leb _ _ (m h .0), le-leb _ _ (m h .1))),
 )
 
 -- What the tests of a box from lo to hi say: of a colour x, and of the octant of side s at low.

@@ -53,7 +53,7 @@ module _ (j low x : ℕ) (m : low % 2 ^ suc j ≡ 0) where
   )
 
 -- A bit's piece is no longer than the side.
-bit-piece : (n s : ℕ) → n % 2 * s ≤ s
+pub bit-piece : (n s : ℕ) → n % 2 * s ≤ s
 bit-piece n s = omega (arith, mul-le-mul-right {m = n % 2} {n = 1} s (omega arith))
 
 -- Where an octant lies: its side is one of the sides 2 ^ 0 to 2 ^ 16, its least codes are multiples of the side, and it stays within the root.
@@ -63,7 +63,7 @@ pub record Lies (j : ℕ) (low : Colour) : Type 0 where
   pub fits : (h : Channel) → codeIn h low + 2 ^ j ≤ 65536
 
 -- The least code of a child.
-child-code : (s k : ℕ) (low : Colour) (h : Channel) → codeIn h (childLow s k low) ≡ codeIn h low + k / weight h % 2 * s
+pub child-code : (s k : ℕ) (low : Colour) (h : Channel) → codeIn h (childLow s k low) ≡ codeIn h low + k / weight h % 2 * s
 unfolding childLow
 child-code s k low h = code-by (λ g. codeIn g low + k / weight g % 2 * s) h
 

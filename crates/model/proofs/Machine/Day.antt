@@ -1,13 +1,12 @@
 -- The whole-day theorem (demand 3): `whole-day`. It rests on each call's contract alone, on `step-valid`, and on the tables' lengths.
 use Prim.Native.Nat.{ℕ}
-use mathlib.Core.Bool.{Bool, true, false}
+use mathlib.Core.Bool.{Bool, true, false, and-eq-true-iff}
 use mathlib.Core.List.{List, [], _∷_, map}
 use mathlib.Core.Path.{_≡_, refl, sym, ap, _∙_}
 use lib.ListN.{length}
 use lib.Dec.{leb, eqb}
 use native.Mathlib.Omega.{arith}
 use borrow.Author.Tests.{leb-true, le-leb, eqb-true, eqb-false}
-use Rattle.colour.proofs.Laws.Channels.{and-both}
 use Rattle.colour.specs.Question.{firstNo}
 use Rattle.model.specs.SampleSet.{Settings}
 use Rattle.model.specs.Layout.{current, sampleHeader, octantHeader}
@@ -80,7 +79,7 @@ pub whole-day : WholeDay
 unfolding Happened machineTrace Meets longEnough start
 whole-day b t h q a t₀ es r =
     let g : (a ≡ plain 0 []) × (t₀ ≡ tablesOf current (start b t)) = r .0 .accepted h q in
-    let long = and-both (leb (sampleHeader current) (length (t .samples))) (leb (octantHeader current) (length (t .octants))) .0 h in
+    let long = and-eq-true-iff (leb (sampleHeader current) (length (t .samples))) (leb (octantHeader current) (length (t .octants))) .0 h in
     let s : Shows current (start b t) t₀ =
     record {
       valid = cleared-valid b (length (t .samples)) (length (t .octants)) (leb-true _ _ (long .0)) (leb-true _ _ (long .1)) q;

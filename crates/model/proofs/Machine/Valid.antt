@@ -1,6 +1,6 @@
 -- Each call keeps the machine within its tables (document 01, "The bin" and "Questions").
 use Prim.Native.Nat.{ℕ, suc, _≤_}
-use mathlib.Core.Bool.{Bool, true, false, not, _&&_, true≢false}
+use mathlib.Core.Bool.{Bool, true, false, not, _&&_, true≢false, and-eq-true-iff}
 use mathlib.Core.List.{List, [], _∷_, _++_}
 use mathlib.Core.Option.{Option, none, some}
 use mathlib.Core.Path.{_≡_, refl, sym}
@@ -11,7 +11,6 @@ use borrow.Author.Tests.{ltb-true, leb-true, eqb-true, eqb-false, ne-eqb, not-tr
 use Rattle.colour.specs.declared.Sample.{Sample}
 use Rattle.colour.specs.Colour.{codesFit}
 use Rattle.colour.specs.Octant.{depths}
-use Rattle.colour.proofs.Laws.Channels.{and-both}
 use Rattle.colour.specs.Question.{Question, asks, firstNo}
 use Rattle.sheet.specs.Line.{Line}
 use Rattle.sheet.specs.Sheet.{linesOf}
@@ -134,7 +133,7 @@ pub cleared-valid : (b : Settings) (n k : ℕ) → sampleHeader current ≤ n �
 unfolding clearQuestions distinct inRange octants placed placedFrom cleared
 cleared-valid b n k h g q =
     let q3 = asked 3 (leb 1 (b .bucket) && leb (b .bucket) 256) [] (λ z. omega arith) q in
-    let size = and-both (leb 1 (b .bucket)) (leb (b .bucket) 256) .0 (q3 .0) in
+    let size = and-eq-true-iff (leb 1 (b .bucket)) (leb (b .bucket) 256) .0 (q3 .0) in
     record {
       sample-words = h;
       octant-words = g;

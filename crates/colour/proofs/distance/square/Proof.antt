@@ -2,7 +2,7 @@
 use borrow.Author.Needs.{needs}
 use Prim.Native.Nat.{_≤_}
 use native.Mathlib.Omega.{arith}
-use Rattle.colour.proofs.Arith.Codes.{square-most}
+use Rattle.colour.proofs.Laws.Distance.{square-most}
 use Rattle.colour.proofs.distance.square.Statement.{statement}
 use Rattle.colour.proofs.distance.square.Tie as tie
 

@@ -1,7 +1,7 @@
 -- Each square is at most 65535², so the three sum to at most 3 × 65535².
 use borrow.Author.Needs.{needs}
 use native.Mathlib.Omega.{arith}
-use Rattle.colour.proofs.Arith.Codes.{squares-most}
+use Rattle.colour.proofs.Laws.Distance.{squares-most}
 use Rattle.colour.proofs.distance.squares.Statement.{statement}
 use Rattle.colour.proofs.distance.squares.Tie as tie
 

@@ -4,7 +4,7 @@ use Prim.Native.Nat.{_+_, _≤_}
 use native.Mathlib.Numerals.{add-one}
 use Rattle.colour.specs.Colour.{Channel, codeIn, colourBy}
 use Rattle.colour.specs.Octant.{weight, childLow, childCube}
-use Rattle.colour.proofs.Arith.Cubes.{child-room, child-within, is-within}
+use Rattle.colour.proofs.Laws.Cubes.{child-room, child-within, is-within}
 use Rattle.colour.proofs.octant.child.Statement.{statement}
 use Rattle.colour.proofs.octant.child.Tie as tie
 

@@ -2,7 +2,7 @@
 use borrow.Author.Needs.{needs}
 use Prim.Native.Nat.{_/_}
 use native.Mathlib.Omega.{arith}
-use Rattle.colour.proofs.Arith.Codes.{bit-most}
+use Rattle.colour.proofs.Laws.Octants.{bit-piece}
 use Rattle.colour.proofs.octant.child_code.Statement.{statement}
 use Rattle.colour.proofs.octant.child_code.Tie as tie
 
@@ -10,10 +10,10 @@ div-result : tie.Need-div-result
 div-result c = search needs
 
 mul-result : tie.Need-mul-result
-mul-result c = omega (arith, bit-most (c .args .k / c .args .weight) (c .args .side))
+mul-result c = omega (arith, bit-piece (c .args .k / c .args .weight) (c .args .side))
 
 add-result : tie.Need-add-result
-add-result c = omega (arith, bit-most (c .args .k / c .args .weight) (c .args .side))
+add-result c = omega (arith, bit-piece (c .args .k / c .args .weight) (c .args .side))
 
 returns : tie.Need-returns
 returns c = search needs

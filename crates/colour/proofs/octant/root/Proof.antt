@@ -2,7 +2,7 @@
 use mathlib.Core.Path.{refl}
 use Rattle.colour.specs.Colour.{colourBy, black}
 use Rattle.colour.specs.Octant.{rootCube}
-use Rattle.colour.proofs.Arith.Cubes.{root-within}
+use Rattle.colour.proofs.Laws.Cubes.{root-within}
 use Rattle.colour.proofs.octant.root.Statement.{statement}
 use Rattle.colour.proofs.octant.root.Tie as tie
 

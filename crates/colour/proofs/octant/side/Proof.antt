@@ -1,8 +1,8 @@
 -- The table is the computed list of the 17 sides.
 use borrow.Author.Needs.{needs}
 use Rattle.colour.specs.Octant.{depths, sideAt}
-use Rattle.colour.proofs.Arith.Cubes.{is-side}
-use Rattle.colour.proofs.Arith.Table.{valuesFrom, rule}
+use Rattle.colour.proofs.Laws.Cubes.{is-side}
+use Rattle.colour.proofs.Laws.Table.{valuesFrom, rule}
 use Rattle.colour.proofs.octant.side.Statement.{statement}
 use Rattle.colour.proofs.octant.side.Tie as tie
 

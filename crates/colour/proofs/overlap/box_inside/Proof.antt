@@ -2,7 +2,7 @@
 use Rattle.colour.specs.Colour.{Channel, codeIn, each}
 use Rattle.colour.specs.Octant.{depths}
 use Rattle.colour.specs.Region.{inside}
-use Rattle.colour.proofs.Arith.Cubes.{room}
+use Rattle.colour.proofs.Laws.Cubes.{room}
 use Rattle.colour.proofs.overlap.box_inside.Statement.{statement}
 use Rattle.colour.proofs.overlap.box_inside.Tie as tie
 

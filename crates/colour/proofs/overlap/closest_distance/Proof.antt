@@ -3,7 +3,7 @@ use borrow.Author.Needs.{needs}
 use Rattle.colour.specs.Colour.{Channel, codeIn, colourBy, sumOf, distance}
 use Rattle.colour.specs.Octant.{depths}
 use Rattle.colour.specs.Region.{closest}
-use Rattle.colour.proofs.Arith.Cubes.{room}
+use Rattle.colour.proofs.Laws.Cubes.{room}
 use Rattle.colour.proofs.overlap.closest_distance.Statement.{statement}
 use Rattle.colour.proofs.overlap.closest_distance.Tie as tie
 

@@ -2,7 +2,7 @@
 use borrow.Author.Needs.{needs}
 use Rattle.colour.specs.Colour.{apart}
 use Rattle.colour.specs.Octant.{lastCode}
-use Rattle.colour.proofs.Arith.Gaps.{closest-low, closest-high, closest-self}
+use Rattle.colour.proofs.Laws.Gaps.{closest-low, closest-high, closest-self}
 use Rattle.colour.proofs.overlap.closest_gap.Statement.{statement}
 use Rattle.colour.proofs.overlap.closest_gap.Tie as tie
 

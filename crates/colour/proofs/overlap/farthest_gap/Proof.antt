@@ -1,7 +1,7 @@
 -- The test on the two differences picks the case of the farthest code.
 use borrow.Author.Needs.{needs}
 use Rattle.colour.specs.Octant.{lastCode}
-use Rattle.colour.proofs.Arith.Gaps.{farthest-high, farthest-low}
+use Rattle.colour.proofs.Laws.Gaps.{farthest-high, farthest-low}
 use Rattle.colour.proofs.overlap.farthest_gap.Statement.{statement}
 use Rattle.colour.proofs.overlap.farthest_gap.Tie as tie
 

@@ -1,7 +1,7 @@
 -- `panel::at_most`: each return by the tests that led there, as laws of Floats.Channels.
 use Rattle.colour.specs.Colour.{Red, Green, codeIn}
 use Rattle.colour.specs.Query.{ordered}
-use Rattle.colour.proofs.Floats.Channels.{turn-no, turn-last}
+use Rattle.colour.proofs.Laws.Channels.{turn-no, turn-last}
 use Rattle.colour.proofs.panel.at_most.Statement.{statement}
 use Rattle.colour.proofs.panel.at_most.Tie as tie
 

@@ -1,10 +1,11 @@
 -- `panel::floats_of`: codes_fit's answer gives what show asks, and what show ensures gives the colour shown.
 use borrow.Author.Needs.{needs}
+use native.Mathlib.Omega.{arith}
 use mathlib.Core.Path.{_≡_, sym, _∙_}
 use mathlib.Core.Bool.{true}
 use Rattle.colour.specs.Colour.{Red, Green, Blue, codeIn, codesFit}
 use Rattle.colour.specs.Panel.{floatsIf, shownColour}
-use Rattle.colour.proofs.Floats.Channels.{fit-at}
+use Rattle.colour.proofs.Laws.Channels.{fit-codes}
 use Rattle.colour.proofs.Floats.Answers.{floats-meet}
 use Rattle.colour.proofs.panel.floats_of.Statement.{statement}
 use Rattle.colour.proofs.panel.floats_of.Tie as tie
@@ -17,15 +18,15 @@ fit c = sym (c .before .codes-fit .ensures) ∙ c .if1 .taken
 
 show-requires : tie.Need-show-requires
 unfolding codeIn
-show-requires c κs = fit-at _ (fit c) Red
+show-requires c κs = omega (arith, fit-codes _ .0 (fit c) Red)
 
 show-requires-2 : tie.Need-show-requires-2
 unfolding codeIn
-show-requires-2 c κs = fit-at _ (fit (c .before)) Green
+show-requires-2 c κs = omega (arith, fit-codes _ .0 (fit (c .before)) Green)
 
 show-requires-3 : tie.Need-show-requires-3
 unfolding codeIn
-show-requires-3 c κs = fit-at _ (fit (c .before .before)) Blue
+show-requires-3 c κs = omega (arith, fit-codes _ .0 (fit (c .before .before)) Blue)
 
 returns : tie.Need-returns
 unfolding floatsIf shownColour
