@@ -4,12 +4,14 @@ use crate::PanelColour;
 use crate::Query;
 use crate::Region;
 ghost use mathlib.Core.Bool.{_&&_};
+ghost use mathlib.Core.List.{[], _∷_};
 ghost use mathlib.Core.Path.{_≡_};
 ghost use Prim.Native.Nat.{_≤_, _<_, _^_};
 ghost use Rattle.colour.specs.Colour.{codesFit};
 ghost use Rattle.colour.specs.Panel.{below, answerIf, channelGood, radiusGood, panelGood};
 ghost use Rattle.colour.specs.Panel.{codesIf, codesAnswer, floatsToCodes, Shown, floatsIf, floatsAnswer, codesToFloats};
-ghost use Rattle.colour.specs.Query.{ordered, sphereIf, askedOf};
+ghost use Rattle.colour.specs.Query.{ordered, queryGood, sphereIf, askedOf, askedNumber};
+ghost use Rattle.colour.specs.Question.{asks, firstNo};
 
 // A float's code, or that it is out of range.
 pub enum Code {
@@ -183,7 +185,7 @@ fn box_asked(low: PanelColour, high: PanelColour) -> Asked
 
 // A query taken apart: an exported call.
 pub fn asked_of(q: Query) -> Asked
-    ensures { λ r. ⌜ r ≡ askedOf q ⌝ }
+    ensures { λ r. ⌜ (askedNumber r ≡ firstNo (asks 9 (queryGood q) ∷ [])) × (r ≡ askedOf q) ⌝ }
 {
     match q {
         Query::Ball(centre, radius) => match sphere_of(centre, radius) {

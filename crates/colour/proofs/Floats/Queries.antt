@@ -1,5 +1,6 @@
 -- A query taken apart: from what its floats' answers tell to what it asks.
-use mathlib.Core.Path.{_≡_, refl, _∙_}
+use mathlib.Core.List.{[], _∷_}
+use mathlib.Core.Path.{_≡_, refl, ap, _∙_}
 use mathlib.Core.Bool.{Bool, true, false, _&&_, and-false, and-eq-true-iff}
 use Prim.Native.Nat.{ℕ, _<_}
 use native.Mathlib.Omega.{arith}
@@ -17,6 +18,7 @@ use Rattle.colour.specs.declared.panel.Asked.{Asked}
 use Rattle.colour.specs.declared.panel.Asked.the-variants as A
 use Rattle.colour.specs.Colour.{codesFit}
 use Rattle.colour.specs.Panel.{panelGood, radiusGood, codesOf, codeOf, answerIf, codesIf}
+use Rattle.colour.specs.Question.{asks, firstNo}
 use Rattle.colour.specs.Query.{ordered, queryGood, inCodes, askedOf, askedNumber, sphereIf}
 use Rattle.colour.proofs.Floats.Answers.{code-told, code-refused, codes-told, codes-refused}
 use Rattle.colour.proofs.Floats.Laws.{code-below, good-fit}
@@ -37,13 +39,18 @@ in-codes-number (Q.Ball c r) = refl
 in-codes-number (Q.Box l h) = refl
 in-codes-number (Q.Nearest c r) = refl
 
--- Its number is 0 exactly for a good query, else 9.
-pub asked-number : (q : Query) → askedNumber (askedOf q) ≡ elim (queryGood q) [ true ↦ 0 | false ↦ 9 ]
-unfolding askedNumber
-asked-number q = at (queryGood q) refl where
-  at : (b : Bool) → queryGood q ≡ b → askedNumber (askedOf q) ≡ elim (queryGood q) [ true ↦ 0 | false ↦ 9 ]
-  at true e = rw (e, asked-yes q e, in-codes-number q)
-  at false e = rw (e, asked-no q e)
+-- Its number is question 9's: 0 exactly for a good query, else 9.
+pub asked-number : (q : Query) → askedNumber (askedOf q) ≡ firstNo (asks 9 (queryGood q) ∷ [])
+unfolding askedNumber firstNo
+asked-number q = at (queryGood q) refl
+  where
+    at : (b : Bool) → queryGood q ≡ b → askedNumber (askedOf q) ≡ firstNo (asks 9 (queryGood q) ∷ [])
+    at true e = rw (e, asked-yes q e, in-codes-number q)
+    at false e = rw (e, asked-no q e)
+
+-- So an answer that is the definition's has the paper's number.
+pub asked-meets : (q : Query) (r : Asked) → r ≡ askedOf q → (askedNumber r ≡ firstNo (asks 9 (queryGood q) ∷ [])) × (r ≡ askedOf q)
+asked-meets q r e = (ap askedNumber e ∙ asked-number q, e)
 
 -- A centre and a radius.
 module _ (p : PanelColour) (v : Float) where

@@ -5,7 +5,7 @@ use Rattle.colour.specs.declared.Query.the-variants.{Ball, Nearest}
 use Rattle.colour.specs.declared.Region.the-variants as R
 use Rattle.colour.specs.declared.panel.Asked.the-variants as A
 use Rattle.colour.specs.Query.{queryGood, inCodes, askedOf}
-use Rattle.colour.proofs.Floats.Queries.{sphere-asked, sphere-not-asked}
+use Rattle.colour.proofs.Floats.Queries.{asked-meets, sphere-asked, sphere-not-asked}
 use Rattle.colour.proofs.panel.asked_of.Statement.{statement}
 use Rattle.colour.proofs.panel.asked_of.Tie as tie
 
@@ -43,34 +43,38 @@ returns : tie.Need-returns
 unfolding queryGood inCodes
 returns c =
     let d = c .before in
-    sym
+    asked-meets _ _
+    (sym
     (ap askedOf (d .before .before .before .before .q .given .1)
-    ∙ sphere-asked (Ball _ _) _ _ refl (λ k n. A.List (R.Ball k n)) refl _ _ (sym (d .before .before .sphere-of .ensures) ∙ d .c .given .1))
+    ∙ sphere-asked (Ball _ _) _ _ refl (λ k n. A.List (R.Ball k n)) refl _ _ (sym (d .before .before .sphere-of .ensures) ∙ d .c .given .1)))
 
 returns-2 : tie.Need-returns-2
 unfolding queryGood
 returns-2 c =
-    sym
+    asked-meets _ _
+    (sym
     (ap askedOf (c .before .before .before .before .q .given .1)
-    ∙ sphere-not-asked (Ball _ _) _ _ refl (sym (c .before .before .sphere-of .ensures) ∙ c .enum-told .given .1))
+    ∙ sphere-not-asked (Ball _ _) _ _ refl (sym (c .before .before .sphere-of .ensures) ∙ c .enum-told .given .1)))
 
 returns-3 : tie.Need-returns-3
-returns-3 c = c .box-asked .ensures ∙ sym (ap askedOf (c .before .before .q2 .given .1))
+returns-3 c = asked-meets _ _ (c .box-asked .ensures ∙ sym (ap askedOf (c .before .before .q2 .given .1)))
 
 returns-4 : tie.Need-returns-4
 unfolding queryGood inCodes
 returns-4 c =
     let d = c .before in
-    sym
+    asked-meets _ _
+    (sym
     (ap askedOf (d .before .before .before .before .q3 .given .1)
-    ∙ sphere-asked (Nearest _ _) _ _ refl A.Nearest refl _ _ (sym (d .before .before .sphere-of2 .ensures) ∙ d .c2 .given .1))
+    ∙ sphere-asked (Nearest _ _) _ _ refl A.Nearest refl _ _ (sym (d .before .before .sphere-of2 .ensures) ∙ d .c2 .given .1)))
 
 returns-5 : tie.Need-returns-5
 unfolding queryGood
 returns-5 c =
-    sym
+    asked-meets _ _
+    (sym
     (ap askedOf (c .before .before .before .before .q3 .given .1)
-    ∙ sphere-not-asked (Nearest _ _) _ _ refl (sym (c .before .before .sphere-of2 .ensures) ∙ c .enum-told2 .given .1))
+    ∙ sphere-not-asked (Nearest _ _) _ _ refl (sym (c .before .before .sphere-of2 .ensures) ∙ c .enum-told2 .given .1)))
 
 pub asked-of-spec : {M : Type 1} → statement M
 asked-of-spec =
