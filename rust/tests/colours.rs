@@ -1,0 +1,197 @@
+//! Floats to codes and back, compared with the straight scan call by call.
+//!
+//! `cargo test --release` takes a few seconds. The ignored tests go through all 2^32 floats in each
+//! channel: `make test-long`, or `cargo test --release -- --ignored`.
+
+#[path = "../../oracle/straight_scan.rs"]
+#[allow(dead_code)]
+#[rustfmt::skip]
+mod straight_scan;
+
+use hubeltxa::raw;
+
+/// A call with its three arguments. Floats are given by their bits, so that a NaN's payload stays.
+#[derive(Clone, Copy, Debug)]
+enum Call {
+    Codes([u32; 3]),
+    Floats([u32; 3]),
+}
+
+/// A call's number, and the three words that it leaves (floats by their bits).
+type Answer = (u32, [u32; 3]);
+
+/// The C function, on three words that hold something else and have neighbours.
+fn library(call: Call) -> Answer {
+    const HELD: u32 = 0xA5A5_A5A5;
+    let mut words = [HELD; 7];
+    let [n0, x, n1, y, n2, z, n3] = &mut words;
+    let number = match call {
+        Call::Codes(p) => {
+            let [r, g, b] = p.map(f32::from_bits);
+            unsafe { raw::hbx_codes(r, g, b, x, y, z) }
+        }
+        Call::Floats([r, g, b]) => {
+            let float = |word: &mut u32| (word as *mut u32).cast::<f32>();
+            unsafe { raw::hbx_floats(r, g, b, float(x), float(y), float(z)) }
+        }
+    };
+    assert_eq!([*n0, *n1, *n2, *n3], [HELD; 4], "{call:x?} wrote elsewhere");
+    (number, [*x, *y, *z])
+}
+
+/// A refusal gives its number and zeros.
+fn answer(result: Result<[u32; 3], u32>) -> Answer {
+    result.map_or_else(|number| (number, [0; 3]), |words| (0, words))
+}
+
+fn wrapper(call: Call) -> Answer {
+    answer(match call {
+        Call::Codes(p) => hubeltxa::codes(p.map(f32::from_bits)),
+        Call::Floats(c) => hubeltxa::floats(c).map(|p| p.map(f32::to_bits)),
+    })
+}
+
+fn oracle(call: Call) -> Answer {
+    answer(match call {
+        Call::Codes(p) => straight_scan::colour(p.map(f32::from_bits)).ok_or(9),
+        Call::Floats(c) => straight_scan::shown(c).map(|p| p.map(f32::to_bits)),
+    })
+}
+
+/// The one comparison: every input goes through it. Gives the answer, for tests that look at it.
+fn compare(call: Call) -> Answer {
+    let expected = oracle(call);
+    assert_eq!(library(call), expected, "the library on {call:x?}");
+    assert_eq!(wrapper(call), expected, "the wrapper on {call:x?}");
+    expected
+}
+
+/// Three good channels with codes that differ: 0.25, 0.5 and the float after 0.75.
+const GOOD: [u32; 3] = [0x3E80_0000, 0x3F00_0000, 0x3F40_0001];
+
+/// A float in one channel, the others good.
+fn compare_in(channel: usize, bits: u32) {
+    let mut p = GOOD;
+    p[channel] = bits;
+    compare(Call::Codes(p));
+}
+
+fn compare_in_each(bits: u32) {
+    (0..3).for_each(|channel| compare_in(channel, bits));
+}
+
+/// Where floats change their kind: zeros, subnormals, every power of two, infinities, NaNs; both signs.
+fn boundaries() -> Vec<u32> {
+    let powers = (0..23).map(|k| 1 << k).chain((1..=254).map(|e| e << 23));
+    let others = [0, 0x007F_FFFF, 0x7F7F_FFFF, 0x7F80_0000, 0x7F80_0001, 0x7FA0_0000, 0x7FA5_5A5A];
+    let quiet = [0x7FBF_FFFF, 0x7FC0_0000, 0x7FC0_0001, 0x7FD5_5A5A, 0x7FFF_FFFF];
+    powers.chain(others).chain(quiet).flat_map(|bits: u32| [bits, bits | 0x8000_0000]).collect()
+}
+
+/// splitmix64.
+fn random(state: &mut u64) -> u64 {
+    *state = state.wrapping_add(0x9E37_79B9_7F4A_7C15);
+    let z = (*state ^ (*state >> 30)).wrapping_mul(0xBF58_476D_1CE4_E5B9);
+    let z = (z ^ (z >> 27)).wrapping_mul(0x94D0_49BB_1331_11EB);
+    z ^ (z >> 31)
+}
+
+/// Every list of three of these.
+fn triples(of: &[u32]) -> impl Iterator<Item = [u32; 3]> + '_ {
+    of.iter().flat_map(move |&x| of.iter().flat_map(move |&y| of.iter().map(move |&z| [x, y, z])))
+}
+
+#[test]
+fn every_code_there_and_back() {
+    for code in 0..=65_535 {
+        for channel in 0..3 {
+            let mut codes = [1, 20_000, 65_534];
+            codes[channel] = code;
+            let (number, shown) = compare(Call::Floats(codes));
+            assert_eq!(number, 0);
+            assert_eq!(compare(Call::Codes(shown)), (0, codes));
+            // The floats next to a code's.
+            compare_in(channel, shown[channel].wrapping_sub(1));
+            compare_in(channel, shown[channel] + 1);
+        }
+    }
+}
+
+#[test]
+fn codes_past_the_end() {
+    let mut codes = vec![0, 1, 65_534, 65_535, 65_536, 65_537, 131_071, 1 << 24, (1 << 24) + 1, u32::MAX];
+    codes.extend((17..32).flat_map(|k| [(1 << k) - 1, 1 << k, (1 << k) + 1]));
+    for c in triples(&codes) {
+        let refused = c.iter().any(|&code| code > 65_535);
+        let (number, shown) = compare(Call::Floats(c));
+        assert_eq!(number, if refused { 4 } else { 0 });
+        assert!(!refused || shown == [0; 3]);
+    }
+}
+
+#[test]
+fn floats_at_a_stride() {
+    (0..=u32::MAX).step_by(1_021).for_each(compare_in_each);
+}
+
+#[test]
+fn floats_at_boundaries() {
+    for bits in boundaries() {
+        (0..=600).for_each(|d| compare_in_each(bits.wrapping_add(d).wrapping_sub(300)));
+    }
+}
+
+#[test]
+fn floats_mixed() {
+    let few = [0, 1, 0x8000_0000, 0x8000_0001, 0x377F_FFFF, 0x3780_0000, 0x3F7F_FFFF, 0x3F80_0000, 0x4000_0000];
+    let bad = [0xBF00_0000, 0x7F80_0000, 0xFF80_0000, 0x7F80_0001, 0x7FC0_0000, 0xFFFF_FFFF];
+    triples(&[&few[..], &bad[..], &GOOD[..]].concat()).for_each(|p| _ = compare(Call::Codes(p)));
+    let all = boundaries();
+    let mut state = 1;
+    for _ in 0..1_000_000 {
+        // Most channels are good, so that many of the colours are.
+        compare(Call::Codes([0; 3].map(|_: u32| {
+            let x = random(&mut state);
+            let bits = (x >> 32) as u32;
+            match x % 16 {
+                0 => bits,
+                1 => all[bits as usize % all.len()],
+                _ => bits % 0x3F80_0000,
+            }
+        })));
+    }
+}
+
+/// Cases j to l of document 01, by their numbers.
+#[test]
+fn cases() {
+    for (bits, number, code) in [
+        (0x3F7F_FFFF, 0, 65_535),
+        (0x3F80_0000, 9, 0),
+        (0x3780_0000, 0, 1),
+        (0x377F_FFFF, 0, 0),
+        (0x8000_0000, 0, 0),
+        (0xBF00_0000, 9, 0),
+        (0x7FC0_0000, 9, 0),
+    ] {
+        assert_eq!(compare(Call::Codes([bits; 3])), (number, [code; 3]));
+    }
+}
+
+#[test]
+#[ignore = "long: all 2^32 floats"]
+fn every_float_as_red() {
+    (0..=u32::MAX).for_each(|bits| compare_in(0, bits));
+}
+
+#[test]
+#[ignore = "long: all 2^32 floats"]
+fn every_float_as_green() {
+    (0..=u32::MAX).for_each(|bits| compare_in(1, bits));
+}
+
+#[test]
+#[ignore = "long: all 2^32 floats"]
+fn every_float_as_blue() {
+    (0..=u32::MAX).for_each(|bits| compare_in(2, bits));
+}
