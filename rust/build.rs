@@ -1,16 +1,10 @@
-//! Finds the static library and tells cargo to link it.
+//! Finds the static library, which `rt` writes at the root of the repository, and tells cargo to link it.
 
 use std::env;
 use std::path::PathBuf;
 
 fn main() {
-    // HUBELTXA_LIB_DIR names a folder with another libhubeltxa.a; without it, the one that
-    // `rt staticlib hubeltxa` writes in this repository.
-    println!("cargo:rerun-if-env-changed=HUBELTXA_LIB_DIR");
-    let folder = match env::var_os("HUBELTXA_LIB_DIR") {
-        Some(folder) => PathBuf::from(folder),
-        None => PathBuf::from(env::var_os("CARGO_MANIFEST_DIR").unwrap()).join("../target/staticlib"),
-    };
+    let folder = PathBuf::from(env::var_os("CARGO_MANIFEST_DIR").unwrap()).join("../target/staticlib");
     let library = folder.join("libhubeltxa.a");
     println!("cargo:rerun-if-changed={}", library.display());
     if !library.is_file() {

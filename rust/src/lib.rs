@@ -13,8 +13,7 @@
 //! # Ok::<(), u32>(())
 //! ```
 //!
-//! To build this crate, run `rt staticlib hubeltxa` at the root of the repository first, or set
-//! `HUBELTXA_LIB_DIR` to a folder that has `libhubeltxa.a`.
+//! To build this crate, run `rt staticlib hubeltxa` at the root of the repository first.
 
 /// The C functions as they are; `include/hubeltxa.h` says what each needs and answers.
 pub mod raw {
