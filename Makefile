@@ -4,7 +4,6 @@
 # make fmt        format Rattle and Rust
 # make clean      remove what is built
 
-MAKEFLAGS += --no-print-directory
 .PHONY: all test test-long fmt clean
 
 all:
