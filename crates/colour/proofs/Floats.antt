@@ -3,5 +3,5 @@ pub mod Value
 pub mod Fields
 pub mod Shown
 pub mod Answers
-pub mod Laws
+pub mod Codes
 pub mod Queries

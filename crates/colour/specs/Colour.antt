@@ -1,7 +1,7 @@
 -- Codes, colours and their distance (document 01, "Colours and octants"; d² from "Picks").
-use Prim.Native.Nat.{ℕ, _+_, _-_, _*_, _≤_}
+use Prim.Native.Nat.{ℕ, _+_, _-_, _*_, _^_, _≤_}
 use mathlib.Core.Bool.{Bool, _&&_}
-use lib.Dec.{leb}
+use lib.Dec.{leb, ltb}
 use Rattle.colour.specs.declared.Colour.{Colour}
 
 -- The three channels, so that a fact about a channel is stated once.
@@ -32,11 +32,15 @@ sumOf f = f Red + f Green + f Blue
 unfoldable pub isCode : ℕ → Bool
 isCode x = leb x 65535
 
+-- Tag: a 32-bit number.
+unfoldable pub isTag : ℕ → Bool
+isTag t = ltb t (2 ^ 32)
+
 -- A colour: red, green, blue codes. Question 4 asks this.
 unfoldable pub codesFit : Colour → Bool
 codesFit c = each (λ h. isCode (codeIn h c))
 
--- The same, as the code asks it of a colour; `in-range` and `fit` of proofs/Laws/Channels.antt show the two to agree.
+-- The same, as the functions ask it of a colour; `in-range` and `fit` of proofs/Laws/Channels.antt show the two to agree.
 pub record InRange (c : Colour) : Type 0 where
   pub red : c .red ≤ 65535
   pub green : c .green ≤ 65535
@@ -45,6 +49,10 @@ pub record InRange (c : Colour) : Type 0 where
 -- The colour with the code 0 in each channel.
 unfoldable pub black : Colour
 black = colourBy (λ h. 0)
+
+-- The greatest d² of two colours: 3 × 65,535 × 65,535.
+abbrev pub greatestDistance : ℕ
+greatestDistance = 12884508675
 
 -- The difference of two codes.
 unfoldable pub apart : ℕ → ℕ → ℕ

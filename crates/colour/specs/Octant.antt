@@ -23,10 +23,10 @@ unfoldable pub lastCode : ℕ → ℕ → ℕ
 lastCode s low = low + s - 1
 
 -- The weight of a channel's bit in a child number.
-unfoldable pub weight : Channel → ℕ
-weight Channel.Red = 1
-weight Channel.Green = 2
-weight Channel.Blue = 4
+unfoldable pub bitWeight : Channel → ℕ
+bitWeight Channel.Red = 1
+bitWeight Channel.Green = 2
+bitWeight Channel.Blue = 4
 
 -- The bit of a code among octants of side 2 ^ j: 1 where it falls in the upper half of the octant of twice that side.
 unfoldable pub bitAt : ℕ → ℕ → ℕ
@@ -34,7 +34,7 @@ bitAt j x = x / 2 ^ j % 2
 
 -- Child number: red bit + 2 × green bit + 4 × blue bit. It is the number of the child of side 2 ^ j in which a colour lies.
 unfoldable pub childNumber : ℕ → Colour → ℕ
-childNumber j c = sumOf (λ h. weight h * bitAt j (codeIn h c))
+childNumber j c = sumOf (λ h. bitWeight h * bitAt j (codeIn h c))
 
 -- An octant of side over 1 has eight children, 0 to 7.
 unfoldable pub children : ℕ
@@ -42,21 +42,21 @@ children = 8
 
 -- The least colour of child k, of side s, of the octant at low.
 unfoldable pub childLow : ℕ → ℕ → Colour → Colour
-childLow s k low = colourBy (λ h. codeIn h low + k / weight h % 2 * s)
+childLow s k low = colourBy (λ h. codeIn h low + k / bitWeight h % 2 * s)
 
 -- The octants: the root, which is all colours, and the eight children of an octant of side over 1.
 pub data Octant : ℕ → Colour → Type 0 where
   root : Octant depths black
   child : {j : ℕ} {low : Colour} (k : ℕ) → k < children → Octant (suc j) low → Octant j (childLow (2 ^ j) k low)
 
--- The cubes that stand for octants in the code: child k of a cube.
+-- The cubes that stand for octants in the functions: child k of a cube, and the root.
 unfoldable pub childCube : Cube → ℕ → Cube
 childCube c k = record { low = childLow (sideAt (suc (c .depth))) k (c .low); depth = suc (c .depth) }
 
 unfoldable pub rootCube : Cube
 rootCube = record { low = black; depth = 0 }
 
--- A cube that lies within the root: what the code asks of a cube.
+-- A cube that lies within the root: what the functions ask of a cube.
 pub record Within (c : Cube) : Type 0 where
   pub depth : c .depth ≤ depths
   pub low : (h : Channel) → codeIn h (c .low) + sideAt (c .depth) ≤ 65536

@@ -48,12 +48,12 @@ shown code = round binary32 false code 65536
 unfoldable pub shownColour : Colour → PanelColour
 shownColour c = record { red = shown (c .red); green = shown (c .green); blue = shown (c .blue) }
 
--- The code of a channel or of a radius, as the code's answer has it.
+-- The code of a channel or of a radius, as an enum.
 unfoldable pub answerIf : Bool → Float → Code
 answerIf true v = C.Is (codeOf v)
 answerIf false v = C.Refused
 
--- The codes of a panel colour, and a colour as floats, as the code's answers have them.
+-- The codes of a panel colour, and a colour as floats, as enums.
 unfoldable pub codesIf : Bool → PanelColour → Codes
 codesIf true p = Cs.Are (codesOf p)
 codesIf false p = Cs.Refused

@@ -19,7 +19,7 @@ use Rattle.colour.specs.Panel.{panelGood, radiusGood, codesOf, codeOf}
 unfoldable pub ordered : Colour → Colour → Bool
 ordered lo hi = each (λ h. leb (codeIn h lo) (codeIn h hi))
 
--- A centre and a radius in codes, as the code's answer has them.
+-- A centre and a radius in codes, as an enum.
 unfoldable pub sphereIf : Bool → PanelColour → Float → Sphere
 sphereIf true c r = S.Is (codesOf c) (codeOf r)
 sphereIf false c r = S.Refused

@@ -37,7 +37,7 @@ unfoldable pub inside : Region → ℕ → Colour → Bool
 inside (Ball c r) s low = ltb (distance c (farthest c s low)) (r * r)
 inside (Box lo hi) s low = each (λ h. leb (codeIn h lo) (codeIn h low) && leb (lastCode s (codeIn h low)) (codeIn h hi))
 
--- What the code asks of a region: a ball's centre is a colour. A box's codes are only compared, so any will do.
+-- What the functions ask of a region: a ball's centre is a colour. A box's codes are only compared, so any will do.
 unfoldable pub Fair : Region → Type 0
 Fair (Ball c r) = InRange c
 Fair (Box lo hi) = Unit

@@ -2,7 +2,7 @@
 use crate::Colour;
 ghost use mathlib.Core.Path.{_≡_};
 ghost use Prim.Native.Nat.{_+_, _*_, _≤_};
-ghost use Rattle.colour.specs.Colour.{apart, distance, InRange};
+ghost use Rattle.colour.specs.Colour.{apart, distance, greatestDistance, InRange};
 
 // The difference of two codes.
 pub fn difference(x: u32, y: u32) -> u32
@@ -21,11 +21,11 @@ pub fn square(x: u32) -> u64
     wide * wide
 }
 
-// The sum of the squares of three differences. 12884508675 is 3 × 65535².
+// The sum of the squares of three differences.
 pub fn squares(red: u32, green: u32, blue: u32) -> u64
     requires { ⌜ (red ≤ 65535) × ((green ≤ 65535) × (blue ≤ 65535)) ⌝ }
     ensures is { λ r. ⌜ r ≡ red * red + green * green + blue * blue ⌝ }
-    ensures bounded { λ r. ⌜ r ≤ 12884508675 ⌝ }
+    ensures bounded { λ r. ⌜ r ≤ greatestDistance ⌝ }
 {
     square(red) + square(green) + square(blue)
 }
@@ -34,7 +34,7 @@ pub fn squares(red: u32, green: u32, blue: u32) -> u64
 pub fn squared(a: Colour, b: Colour) -> u64
     requires { ⌜ (InRange a) × (InRange b) ⌝ }
     ensures is { λ r. ⌜ r ≡ distance a b ⌝ }
-    ensures bounded { λ r. ⌜ r ≤ 12884508675 ⌝ }
+    ensures bounded { λ r. ⌜ r ≤ greatestDistance ⌝ }
 {
     squares(
         difference(a.red, b.red),

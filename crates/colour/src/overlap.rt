@@ -12,7 +12,7 @@ ghost use mathlib.Core.Path.{_≡_};
 ghost use mathlib.Core.Bool.{_&&_};
 ghost use Prim.Native.Nat.{_+_, _≤_};
 ghost use lib.Dec.{leb};
-ghost use Rattle.colour.specs.Colour.{apart, distance, InRange};
+ghost use Rattle.colour.specs.Colour.{apart, distance, greatestDistance, InRange};
 ghost use Rattle.colour.specs.Octant.{lastCode, sideAt, Within};
 ghost use Rattle.colour.specs.Region.{closestCode, farthestCode, closest, farthest, holds, overlaps, inside, Fair};
 
@@ -47,7 +47,7 @@ fn farthest_gap(x: u32, low: u32, side: u32) -> u32
 pub fn closest_distance(c: Colour, cube: Cube) -> u64
     requires { ⌜ (InRange c) × (Within cube) ⌝ }
     ensures is { λ r. ⌜ r ≡ distance c (closest c (sideAt (cube .depth)) (cube .low)) ⌝ }
-    ensures bounded { λ r. ⌜ r ≤ 12884508675 ⌝ }
+    ensures bounded { λ r. ⌜ r ≤ greatestDistance ⌝ }
 {
     let low = cube.low;
     let s = side(cube.depth);
@@ -62,7 +62,7 @@ pub fn closest_distance(c: Colour, cube: Cube) -> u64
 pub fn farthest_distance(c: Colour, cube: Cube) -> u64
     requires { ⌜ (InRange c) × (Within cube) ⌝ }
     ensures is { λ r. ⌜ r ≡ distance c (farthest c (sideAt (cube .depth)) (cube .low)) ⌝ }
-    ensures bounded { λ r. ⌜ r ≤ 12884508675 ⌝ }
+    ensures bounded { λ r. ⌜ r ≤ greatestDistance ⌝ }
 {
     let low = cube.low;
     let s = side(cube.depth);

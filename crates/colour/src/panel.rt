@@ -14,7 +14,7 @@ ghost use Rattle.colour.specs.Query.{ordered, queryGood, sphereIf, asked
 ghost use Rattle.colour.specs.Question.{asks, firstNo};
 
 // A float's code, or that it is out of range.
-pub enum Code {
+enum Code {
     Is(u32),
     Refused,
 }

@@ -11,19 +11,13 @@ use Rattle.colour.specs.declared.Sample.{Sample}
 use Rattle.colour.specs.declared.Query.the-variants.{Ball, Nearest}
 use Rattle.colour.specs.Panel.{codeOf, shown, CodesAnswer, floatsToCodes}
 use Rattle.sheet.specs.Line.{lineBytes}
+use Rattle.sheet.specs.Sheet.{sameBytes as same}
 use Rattle.model.specs.SampleSet.{order, octants}
 use Rattle.model.specs.Layout.{current}
 use Rattle.model.specs.Queries.{tagOf}
-use Rattle.model.specs.Machine.{Machine, Call, Add, Remove, Ask, Answer, tablesOf, cleared, step}
+use Rattle.model.specs.Machine.{Machine, Call, Add, Remove, Ask, Answer, tablesOf, startOn, step}
 use Rattle.model.specs.Walklist.{walklistStart, tagLines, refusedLine, walklistPrints}
 use Rattle.model.specs.Computes.{computes}
-
--- Whether two lists of words are the same.
-unfoldable pub same : List ℕ → List ℕ → Bool
-same [] [] = true
-same [] (y ∷ ys) = false
-same (x ∷ xs) [] = false
-same (x ∷ xs) (y ∷ ys) = eqb x y && same xs ys
 
 unfoldable pub all : List Bool → Bool
 all [] = true
@@ -41,7 +35,7 @@ bits w = ofBits binary32 w
 
 -- Machines on room for 16 samples and on a given number of octant words, after some calls.
 unfoldable pub fresh : ℕ → ℕ → Machine
-fresh b words = cleared (record { bucket = b }) 82 words
+fresh b words = startOn (record { bucket = b }) 82 words
 
 unfoldable pub after : Machine → List Call → Machine
 after m [] = m
@@ -82,8 +76,8 @@ ballGives m r tags entered measured =
     && eqb (a .measured) measured
 
 -- Nearest to centre 0 with radius 1 finds this tag at d² 0.
-unfoldable pub nearGives : Machine → ℕ → Bool
-nearGives m tag =
+unfoldable pub nearestGives : Machine → ℕ → Bool
+nearestGives m tag =
     let a : Answer = step m (Ask (Nearest (panelGrey (bits 0)) (bits 0x37800000)) []) .answer in
     eqb (a .number) 0 && a .found && eqb (a .tag) tag && eqb (a .distance) 0
 
@@ -129,9 +123,9 @@ cases =
     ∷ ballGives three 113509 (7 ∷ 9 ∷ []) 3 1
     ∷ ballGives three 113510 (7 ∷ 9 ∷ 8 ∷ []) 1 0
     -- g. Nearest: tag 7; 7 removed: tag 9; 7 added anew: still 9.
-    ∷ nearGives three 7
-    ∷ nearGives (after three (Remove 7 ∷ [])) 9
-    ∷ nearGives (after three (Remove 7 ∷ Add (grey 7 0) ∷ [])) 9
+    ∷ nearestGives three 7
+    ∷ nearestGives (after three (Remove 7 ∷ [])) 9
+    ∷ nearestGives (after three (Remove 7 ∷ Add (grey 7 0) ∷ [])) 9
     -- h. b = 1: 18 octants; 199 octant words suffice, with 198 the third add gives 7.
     ∷ eqb (octants (after (fresh 1 199) adds .set)) 18
     ∷ same (numbers (fresh 1 199) adds) (0 ∷ 0 ∷ 0 ∷ [])
@@ -162,5 +156,5 @@ cases =
     ∷ []
 
 pub cases-hold : all cases ≡ true
-unfolding computes cases all same grey panelGrey bits fresh after numbers adds three ballGives nearGives channelGives queryNumber blanks reelEnd blackLine whiteLine example orderTags nextWords octantWordsOf alone walklistStart tagLines refusedLine walklistPrints ofBits round
+unfolding computes cases all grey panelGrey bits fresh after numbers adds three ballGives nearestGives channelGives queryNumber blanks reelEnd blackLine whiteLine example orderTags nextWords octantWordsOf alone walklistStart tagLines refusedLine walklistPrints ofBits round
 cases-hold = refl

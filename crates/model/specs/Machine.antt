@@ -61,24 +61,28 @@ unfoldable pub listAnswer : ℕ → ℕ → Counts → List ℕ → Answer
 listAnswer n k c lent =
     record { number = n; taken = 0; listed = k; entered = c .entered; measured = c .measured; found = false; tag = 0; distance = 0; listing = lent }
 
-unfoldable pub nearAnswer : ℕ → Bool → ℕ → ℕ → List ℕ → Answer
-nearAnswer n found tag distance lent =
+unfoldable pub nearestAnswer : ℕ → Bool → ℕ → ℕ → List ℕ → Answer
+nearestAnswer n found tag distance lent =
     record { number = n; taken = 0; listed = 0; entered = 0; measured = 0; found = found; tag = tag; distance = distance; listing = lent }
 
 -- A refusal writes nothing, and all else it gives back is 0. The same for acceptance by a call that reports nothing.
 unfoldable pub plain : ℕ → List ℕ → Answer
-plain n lent = nearAnswer n false 0 0 lent
+plain n lent = nearestAnswer n false 0 0 lent
 
 pub record Outcome : Type 0 where
   pub answer : Answer
   pub next : Machine
 
+-- A machine with another set, and with other samples; the lengths stay the same throughout.
+unfoldable pub withSet : Machine → SampleSet → Machine
+withSet m set = record { set = set; sampleLength = m .sampleLength; octantLength = m .octantLength }
+
 unfoldable pub withSamples : Machine → List Sample → Machine
-withSamples m xs = record { set = record { settings = m .set .settings; samples = xs }; sampleLength = m .sampleLength; octantLength = m .octantLength }
+withSamples m xs = withSet m (record { settings = m .set .settings; samples = xs })
 
 -- Clear empties the list and sets b.
-unfoldable pub cleared : Settings → ℕ → ℕ → Machine
-cleared b sampleLength octantLength = record { set = record { settings = b; samples = [] }; sampleLength = sampleLength; octantLength = octantLength }
+unfoldable pub emptySet : Settings → SampleSet
+emptySet b = record { settings = b; samples = [] }
 
 -- Add puts a sample at the end.
 unfoldable pub added : Machine → Sample → Machine
@@ -96,13 +100,16 @@ hasTag t (s ∷ rest) = elim (eqb (s .tag) t) [ true ↦ true | false ↦ hasTag
 unfoldable pub clearQuestions : Settings → List Question
 clearQuestions b = asks 3 (leb 1 (b .bucket) && leb (b .bucket) 256) ∷ []
 
--- Questions 5: tag new? 6: a sample row unused? 7: would the new tree fit the octant rows?
-unfoldable pub roomQuestions : Machine → Sample → List Question
-roomQuestions m s =
-    asks 5 (not (hasTag (s .tag) (m .set .samples)))
-    ∷ asks 6 (ltb (length (m .set .samples)) (sampleRows current (m .sampleLength)))
-    ∷ asks 7 (leb (octants (added m s .set)) (octantRows current (m .octantLength)))
+-- Questions 6 and 7 for a whole list: does each sample find a row, and would its tree fit the octant rows?
+unfoldable pub fitQuestions : Machine → List Sample → List Question
+fitQuestions m xs =
+    asks 6 (leb (length xs) (sampleRows current (m .sampleLength)))
+    ∷ asks 7 (leb (octants (withSamples m xs .set)) (octantRows current (m .octantLength)))
     ∷ []
+
+-- Question 5: tag new? 6: a sample row unused? Removed rows count: the list with the sample added finds rows. 7: would the new tree fit?
+unfoldable pub roomQuestions : Machine → Sample → List Question
+roomQuestions m s = asks 5 (not (hasTag (s .tag) (m .set .samples))) ∷ fitQuestions m (added m s .set .samples)
 
 -- Question 4: codes up to 65,535? Then 5, 6, 7.
 unfoldable pub addQuestions : Machine → Sample → List Question
@@ -143,8 +150,8 @@ listingAnswer R set lent =
 
 -- Nearest gives the tag and d², or says none with both 0; it uses no listing.
 unfoldable pub foundAnswer : Colour → Option Placed → List ℕ → Answer
-foundAnswer c none lent = nearAnswer 0 false 0 0 lent
-foundAnswer c (some x) lent = nearAnswer 0 true (tagOf x) (distance c (x .sample .colour)) lent
+foundAnswer c none lent = nearestAnswer 0 false 0 0 lent
+foundAnswer c (some x) lent = nearestAnswer 0 true (tagOf x) (distance c (x .sample .colour)) lent
 
 -- A query that is taken apart, or refused by question 9.
 unfoldable pub askedAnswer : SampleSet → Asked → List ℕ → Answer
@@ -154,12 +161,15 @@ askedAnswer set A.Refused lent = plain 9 lent
 
 -- One call. Queries change nothing.
 unfoldable pub step : Machine → Call → Outcome
-step m (Clear b) = unlessRefused (firstNo (clearQuestions b)) m (cleared b (m .sampleLength) (m .octantLength))
+step m (Clear b) = unlessRefused (firstNo (clearQuestions b)) m (withSet m (emptySet b))
 step m (Load sheet) = load m (linesOf sheet)
 step m (Add s) = unlessRefused (firstNo (addQuestions m s)) m (added m s)
 step m (Remove t) = unlessRefused (firstNo (removeQuestions m t)) m (removed m t)
 step m (Ask q lent) = record { answer = askedAnswer (m .set) (askedOf q) lent; next = m }
 
 -- The machine that an accepted clear starts, on tables of these lengths.
+unfoldable pub startOn : Settings → ℕ → ℕ → Machine
+startOn b sampleLength octantLength = record { set = emptySet b; sampleLength = sampleLength; octantLength = octantLength }
+
 unfoldable pub start : Settings → Tables → Machine
-start b t = cleared b (length (t .samples)) (length (t .octants))
+start b t = startOn b (length (t .samples)) (length (t .octants))

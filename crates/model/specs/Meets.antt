@@ -1,5 +1,4 @@
--- What the contracts of the table calls say (document 01, "Questions"; the finishing house's note).
--- Each `ensures` of an exported call on the tables cites `Meets` or `CheckMeets`.
+-- What the contracts of the table calls say (document 01, "Questions"; the finishing house's note): the text that an `ensures` cites.
 use Prim.Native.Nat.{ℕ, _≤_}
 use mathlib.Core.Bool.{Bool, true, false, _&&_, _||_}
 use mathlib.Core.List.{List, []}
@@ -13,7 +12,7 @@ use Rattle.colour.specs.Query.{queryGood}
 use Rattle.model.specs.SampleSet.{Settings}
 use Rattle.model.specs.Layout.{current}
 use Rattle.model.specs.Tables.{Tables}
-use Rattle.model.specs.Machine.{Machine, Call, Clear, Load, Add, Remove, Ask, Answer, tablesOf, plain, listAnswer, nearAnswer, step, start, clearQuestions}
+use Rattle.model.specs.Machine.{Machine, Call, Clear, Load, Add, Remove, Ask, Answer, tablesOf, plain, listAnswer, nearestAnswer, step, start, clearQuestions}
 use Rattle.model.specs.Sound.{Shows, Sound, longEnough}
 
 -- The listing that a call was lent.
@@ -46,9 +45,11 @@ mayGive q n = eqb n 0 || eqb n 2 || eqb n 9 || (lists q && eqb n 13)
 
 -- It reports what its kind of query reports, and nothing else.
 unfoldable pub ownReports : Query → List ℕ → Answer → Answer
-ownReports (Q.Ball c r) l a = listAnswer (a .number) (a .listed) (record { entered = a .entered; measured = a .measured }) (a .listing)
-ownReports (Q.Box lo hi) l a = listAnswer (a .number) (a .listed) (record { entered = a .entered; measured = a .measured }) (a .listing)
-ownReports (Q.Nearest c r) l a = nearAnswer (a .number) (a .found) (a .tag) (a .distance) l
+ownReports q l a =
+    elim (lists q) [
+      | true ↦ listAnswer (a .number) (a .listed) (record { entered = a .entered; measured = a .measured }) (a .listing)
+      | false ↦ nearestAnswer (a .number) (a .found) (a .tag) (a .distance) l
+    ]
 
 -- Question 2, the one freedom: on unsound tables a query may go on, to finish or to give a later number. Then this holds.
 pub record Free (q : Query) (l : List ℕ) (t : Tables) (a : Answer) (t′ : Tables) : Type 0 where
@@ -68,15 +69,15 @@ pub record Free (q : Query) (l : List ℕ) (t : Tables) (a : Answer) (t′ : Tab
 
 -- A call on tables t that answers a and leaves t′, with what holds on unsound tables.
 pub record TableMeets (unsoundly : Type 0) (c : Call) (t : Tables) (a : Answer) (t′ : Tables) : Type 0 where
-  pub short : longEnough t ≡ false → Refused 1 c t a t′
-  pub unsound : longEnough t ≡ true → (Sound current t → ⊥) → unsoundly
+  pub short : longEnough current t ≡ false → Refused 1 c t a t′
+  pub unsound : longEnough current t ≡ true → (Sound current t → ⊥) → unsoundly
   pub sound : (m : Machine) → Shows current m t → Follows m c a t′
 
 -- Clear asks 1 and 3 alone, and starts a machine whatever words the tables held.
 pub record ClearMeets (b : Settings) (t : Tables) (a : Answer) (t′ : Tables) : Type 0 where
-  pub short : longEnough t ≡ false → Refused 1 (Clear b) t a t′
-  pub refused : longEnough t ≡ true → (firstNo (clearQuestions b) ≡ 0 → ⊥) → Refused (firstNo (clearQuestions b)) (Clear b) t a t′
-  pub accepted : longEnough t ≡ true → firstNo (clearQuestions b) ≡ 0 → (a ≡ plain 0 []) × (t′ ≡ tablesOf current (start b t))
+  pub short : longEnough current t ≡ false → Refused 1 (Clear b) t a t′
+  pub refused : longEnough current t ≡ true → (firstNo (clearQuestions b) ≡ 0 → ⊥) → Refused (firstNo (clearQuestions b)) (Clear b) t a t′
+  pub accepted : longEnough current t ≡ true → firstNo (clearQuestions b) ≡ 0 → (a ≡ plain 0 []) × (t′ ≡ tablesOf current (start b t))
 
 -- The contract of each table call.
 unfoldable pub Meets : Call → Tables → Answer → Tables → Type 0
@@ -89,4 +90,4 @@ Meets (Ask q l) t a t′ = TableMeets (Free q l t a t′) (Ask q l) t a t′
 -- The checking call says yes exactly where the tables are sound; so no where they are too short.
 pub record CheckMeets (t : Tables) (yes : Bool) : Type 0 where
   pub sound : yes ≡ true → Sound current t
-  pub unsound : yes ≡ false → Sound current t → ⊥
+  pub complete : Sound current t → yes ≡ true

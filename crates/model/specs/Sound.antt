@@ -8,7 +8,7 @@ use lib.ListN.{length}
 use Rattle.colour.specs.declared.Sample.{Sample}
 use Rattle.colour.specs.Colour.{codesFit}
 use Rattle.model.specs.SampleSet.{octants}
-use Rattle.model.specs.Layout.{Layout, current, sampleHeader, octantHeader, sampleRows, octantRows}
+use Rattle.model.specs.Layout.{Layout, sampleHeader, octantHeader, sampleRows, octantRows}
 use Rattle.model.specs.Tables.{Tables}
 use Rattle.model.specs.Machine.{Machine, tablesOf, hasTag}
 
@@ -18,9 +18,9 @@ distinct [] = Unit {0}
 distinct (s ∷ rest) = (hasTag (s .tag) rest ≡ false) × distinct rest
 
 -- Every code in range. (A tag is a 32-bit number because the words are: `tag-fits` of proofs/.)
-unfoldable pub inRange : List Sample → Type 0
-inRange [] = Unit {0}
-inRange (s ∷ rest) = (codesFit (s .colour) ≡ true) × inRange rest
+unfoldable pub codesInRange : List Sample → Type 0
+codesInRange [] = Unit {0}
+codesInRange (s ∷ rest) = (codesFit (s .colour) ≡ true) × codesInRange rest
 
 -- A machine within its tables: a set, a bucket size and two lengths that document 01 allows and that hold the set.
 pub record Valid (L : Layout) (m : Machine) : Type 0 where
@@ -29,7 +29,7 @@ pub record Valid (L : Layout) (m : Machine) : Type 0 where
   pub bucket-low : 1 ≤ m .set .settings .bucket
   pub bucket-high : m .set .settings .bucket ≤ 256
   pub tags-distinct : distinct (m .set .samples)
-  pub in-range : inRange (m .set .samples)
+  pub in-range : codesInRange (m .set .samples)
   pub rows-fit : length (m .set .samples) ≤ sampleRows L (m .sampleLength)
   pub octants-fit : octants (m .set) ≤ octantRows L (m .octantLength)
 
@@ -44,5 +44,5 @@ pub record Sound (L : Layout) (t : Tables) : Type 0 where
   pub shows : Shows L machine t
 
 -- Question 1: at least 2 and 1 words?
-unfoldable pub longEnough : Tables → Bool
-longEnough t = leb (sampleHeader current) (length (t .samples)) && leb (octantHeader current) (length (t .octants))
+unfoldable pub longEnough : Layout → Tables → Bool
+longEnough L t = leb (sampleHeader L) (length (t .samples)) && leb (octantHeader L) (length (t .octants))

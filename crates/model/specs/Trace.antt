@@ -40,6 +40,6 @@ machineTrace b t calls =
 -- they are the machine's, every answer and every word of both tables.
 abbrev pub WholeDay : Type 0
 WholeDay =
-    (b : Settings) (t : Tables) → longEnough t ≡ true → firstNo (clearQuestions b) ≡ 0
+    (b : Settings) (t : Tables) → longEnough current t ≡ true → firstNo (clearQuestions b) ≡ 0
     → (a : Answer) (t₀ : Tables) (events : List Event) → Happened t (record { call = Clear b; answer = a; after = t₀ } ∷ events)
     → record { call = Clear b; answer = a; after = t₀ } ∷ events ≡ machineTrace b t (map callOf events)

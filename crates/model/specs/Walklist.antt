@@ -9,12 +9,12 @@ use Rattle.sheet.specs.Line.{tagColumns}
 use Rattle.model.specs.SampleSet.{Placed, order}
 use Rattle.model.specs.Layout.{current, sampleHeader, sampleWidth, octantHeader, octantWidth}
 use Rattle.model.specs.Queries.{tagOf}
-use Rattle.model.specs.Machine.{Machine, Load, Outcome, cleared, step}
+use Rattle.model.specs.Machine.{Machine, Load, Outcome, startOn, step}
 
 -- b = 2, 512 sample and 1,489 octant rows.
 unfoldable pub walklistStart : Machine
 walklistStart =
-    cleared (record { bucket = 2 }) (sampleHeader current + 512 * sampleWidth current) (octantHeader current + 1489 * octantWidth current)
+    startOn (record { bucket = 2 }) (sampleHeader current + 512 * sampleWidth current) (octantHeader current + 1489 * octantWidth current)
 
 -- Each tag of the order in 10 columns and a newline.
 unfoldable pub tagLines : List Placed → List ℕ

@@ -1,23 +1,21 @@
 -- A good line has its tag and its codes in range (document 01, "Sheets").
-use Prim.Native.Nat.{ℕ, zero, suc, _<_, _^_}
+use Prim.Native.Nat.{ℕ, zero, suc}
 use mathlib.Core.Bool.{Bool, true, false, _&&_, and-eq-true-iff}
 use mathlib.Core.List.{List, [], _∷_}
 use mathlib.Core.Option.{Option, none, some}
 use mathlib.Core.Path.{_≡_, refl}
-use lib.Dec.{ltb}
-use borrow.Author.Tests.{ltb-true}
-use Rattle.colour.specs.Colour.{codesFit}
+use Rattle.colour.specs.Colour.{isTag, codesFit}
 use Rattle.sheet.specs.Line.{Line, lineFrom, lineFormed, lineOf}
 use Rattle.sheet.specs.Sheet.{linePart, linesFrom, linesBy, lineCount, linesOf}
 
 -- What holds of a good line, of every good line of a list, and of a sheet's lines.
-pub record InRange (l : Line) : Type 0 where
-  pub tag : l .sample .tag < 2 ^ 32
+pub record GoodRange (l : Line) : Type 0 where
+  pub tag : isTag (l .sample .tag) ≡ true
   pub codes : codesFit (l .sample .colour) ≡ true
 
 unfoldable pub Ranged : Option Line → Type 0
 Ranged none = Unit {0}
-Ranged (some l) = InRange l
+Ranged (some l) = GoodRange l
 
 unfoldable pub AllRanged : List (Option Line) → Type 0
 AllRanged [] = Unit {0}
@@ -33,13 +31,13 @@ from-ranged none r g b n = tt
 from-ranged (some t) none g b n = tt
 from-ranged (some t) (some r) none b n = tt
 from-ranged (some t) (some r) (some g) none n = tt
-from-ranged (some t) (some r) (some g) (some b) n = go (ltb t (2 ^ 32) && codesFit (record { red = r; green = g; blue = b })) refl
+from-ranged (some t) (some r) (some g) (some b) n = go (isTag t && codesFit (record { red = r; green = g; blue = b })) refl
   where
-    go : (q : Bool) → (ltb t (2 ^ 32) && codesFit (record { red = r; green = g; blue = b })) ≡ q
+    go : (q : Bool) → (isTag t && codesFit (record { red = r; green = g; blue = b })) ≡ q
         → Ranged (lineFrom (some t) (some r) (some g) (some b) n)
     go true e =
-        let h = and-eq-true-iff (ltb t (2 ^ 32)) _ .0 e in
-        rw (e, lineFrom) (record { tag = ltb-true t (2 ^ 32) (h .0); codes = h .1 })
+        let h = and-eq-true-iff (isTag t) _ .0 e in
+        rw (e, lineFrom) (record { tag = h .0; codes = h .1 })
     go false e = rw (e, lineFrom) tt
 
 pub line-ranged : (s : List ℕ) → Ranged (lineOf s)

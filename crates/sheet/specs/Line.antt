@@ -1,13 +1,13 @@
 -- Reel names and sheet lines, read and written (document 01, "Sheets").
-use Prim.Native.Nat.{ℕ, _+_, _-_, _^_}
+use Prim.Native.Nat.{ℕ, _+_, _-_}
 use mathlib.Core.Bool.{Bool, true, false, _&&_}
 use mathlib.Core.List.{List, [], _∷_, _++_}
 use mathlib.Core.Option.{Option, none, some}
-use lib.Dec.{leb, ltb, eqb}
+use lib.Dec.{leb, eqb}
 use lib.ListN.{length, take, drop, getD, replicate}
 use Rattle.colour.specs.declared.Colour.{Colour}
 use Rattle.colour.specs.declared.Sample.{Sample}
-use Rattle.colour.specs.Colour.{codesFit}
+use Rattle.colour.specs.Colour.{isTag, codesFit}
 use Rattle.colour.specs.Question.{asks, firstNo}
 use Rattle.sheet.specs.Column.{blank, newline, trimmed, columnNumber, columnOf}
 
@@ -73,7 +73,7 @@ lineFrom (some t) (some r) none b n = none
 lineFrom (some t) (some r) (some g) none n = none
 lineFrom (some t) (some r) (some g) (some b) n =
     let c : Colour = record { red = r; green = g; blue = b } in
-    elim (ltb t (2 ^ 32) && codesFit c) [ true ↦ some (record { sample = record { tag = t; colour = c }; nameLength = n }) | false ↦ none ]
+    elim (isTag t && codesFit c) [ true ↦ some (record { sample = record { tag = t; colour = c }; nameLength = n }) | false ↦ none ]
 
 -- The columns of a line's name.
 unfoldable pub nameField : List ℕ → List ℕ

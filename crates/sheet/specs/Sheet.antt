@@ -60,13 +60,13 @@ linesOf s = linesBy (lineCount s) s
 -- A part of a sheet: where it starts, and how many bytes it has.
 pub record Part : Type 0 where
   pub start : ℕ
-  pub length : ℕ
+  pub size : ℕ
 
 unfoldable pub emptyPart : Part
-emptyPart = record { start = 0; length = 0 }
+emptyPart = record { start = 0; size = 0 }
 
 unfoldable pub bytesOf : Part → List ℕ → List ℕ
-bytesOf p s = take (p .length) (drop (p .start) s)
+bytesOf p s = take (p .size) (drop (p .start) s)
 
 -- Whether all lines are good.
 unfoldable pub allGood : List (Option Line) → Bool
@@ -80,7 +80,7 @@ namePartFrom tag k [] = emptyPart
 namePartFrom tag k (none ∷ rest) = namePartFrom tag (suc k) rest
 namePartFrom tag k (some l ∷ rest) =
     elim (eqb (l .sample .tag) tag) [
-      | true ↦ record { start = lineStart k + nameStart; length = l .nameLength }
+      | true ↦ record { start = lineStart k + nameStart; size = l .nameLength }
       | false ↦ namePartFrom tag (suc k) rest
     ]
 

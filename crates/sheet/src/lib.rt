@@ -1,1 +1,1 @@
-// Sheets. The definitions stand in specs/; the functions that read and write sheets are proved against them.
+// Sheets: the definitions stand in specs/.

@@ -21,7 +21,7 @@ use Rattle.colour.specs.Panel.{panelGood, radiusGood, codesOf, codeOf, a
 use Rattle.colour.specs.Question.{asks, firstNo}
 use Rattle.colour.specs.Query.{ordered, queryGood, inCodes, askedOf, askedNumber, sphereIf}
 use Rattle.colour.proofs.Floats.Answers.{code-told, code-refused, codes-told, codes-refused}
-use Rattle.colour.proofs.Floats.Laws.{code-below, good-fit}
+use Rattle.colour.proofs.Floats.Codes.{code-below, good-fit}
 
 -- A good query is answered in its codes, any other is refused.
 module _ (q : Query) where

@@ -7,7 +7,7 @@ use native.Mathlib.Omega.{arith}
 use lib.Pow.{pow-pos}
 use Rattle.colour.specs.declared.Cube.{Cube}
 use Rattle.colour.specs.Colour.{Channel, codeIn, black}
-use Rattle.colour.specs.Octant.{depths, sideAt, weight, children, Octant, root, child, childCube, rootCube, Within}
+use Rattle.colour.specs.Octant.{depths, sideAt, bitWeight, children, Octant, root, child, childCube, rootCube, Within}
 use Rattle.colour.proofs.Laws.Channels.{code-by}
 use Rattle.colour.proofs.Laws.Octants.{octant-lies, child-code, bit-piece}
 
@@ -53,7 +53,7 @@ unfolding childCube depths
 child-within c k w d = record {
   depth = omega arith;
   low = λ h. rw (child-code (sideAt (suc (c .depth))) k (c .low) h)
-      (omega (arith, w .low h, side-half (c .depth) d, bit-piece (k / weight h) (sideAt (suc (c .depth)))));
+      (omega (arith, w .low h, side-half (c .depth) d, bit-piece (k / bitWeight h) (sideAt (suc (c .depth)))));
 }
 
 pub root-within : Within rootCube

@@ -10,7 +10,7 @@ use lib.Dec.{leb·zero, leb·suc-suc}
 use lib.Pow.{pow-pos}
 use Rattle.colour.specs.declared.Colour.{Colour}
 use Rattle.colour.specs.Colour.{Channel, codeIn, sumOf, isCode, codesFit, black}
-use Rattle.colour.specs.Octant.{depths, cubeHolds, weight, bitAt, childNumber, children, childLow, Octant, root, child}
+use Rattle.colour.specs.Octant.{depths, cubeHolds, bitWeight, bitAt, childNumber, children, childLow, Octant, root, child}
 use Rattle.colour.proofs.Laws.Channels.{Among, each-same, code-by, same-codes, cube-among, fit-codes}
 
 -- q pieces of twice the side p, and b of the side p.
@@ -63,9 +63,9 @@ pub record Lies (j : ℕ) (low : Colour) : Type 0 where
   pub fits : (h : Channel) → codeIn h low + 2 ^ j ≤ 65536
 
 -- The least code of a child.
-pub child-code : (s k : ℕ) (low : Colour) (h : Channel) → codeIn h (childLow s k low) ≡ codeIn h low + k / weight h % 2 * s
+pub child-code : (s k : ℕ) (low : Colour) (h : Channel) → codeIn h (childLow s k low) ≡ codeIn h low + k / bitWeight h % 2 * s
 unfolding childLow
-child-code s k low h = code-by (λ g. codeIn g low + k / weight g % 2 * s) h
+child-code s k low h = code-by (λ g. codeIn g low + k / bitWeight g % 2 * s) h
 
 -- The root's least codes are 0.
 black-code : (h : Channel) → codeIn h black ≡ 0
@@ -80,25 +80,25 @@ octant-lies (child {j} {low} k b o) =
     let l : Lies (suc j) low = octant-lies o in
     record {
       side = omega (arith, l .side);
-      multiple = λ h. rw (child-code, above j (codeIn h low) (k / weight h % 2) (l .multiple h)) (mul-mod-left _ _);
-      fits = λ h. rw child-code (omega (arith, l .fits h, two-pow-succ j, bit-piece (k / weight h) (2 ^ j)));
+      multiple = λ h. rw (child-code, above j (codeIn h low) (k / bitWeight h % 2) (l .multiple h)) (mul-mod-left _ _);
+      fits = λ h. rw child-code (omega (arith, l .fits h, two-pow-succ j, bit-piece (k / bitWeight h) (2 ^ j)));
     }
 
 -- "Child number = red bit + 2 × green bit + 4 × blue bit": its binary digits are the channels' bits.
-pub child-bit : (j : ℕ) (c : Colour) (h : Channel) → childNumber j c / weight h % 2 ≡ bitAt j (codeIn h c)
-unfolding childNumber sumOf weight bitAt
+pub child-bit : (j : ℕ) (c : Colour) (h : Channel) → childNumber j c / bitWeight h % 2 ≡ bitAt j (codeIn h c)
+unfolding childNumber sumOf bitWeight bitAt
 child-bit j c Channel.Red = omega arith
 child-bit j c Channel.Green = omega arith
 child-bit j c Channel.Blue = omega arith
 
 -- The children are 0 to 7.
 pub child-small : (j : ℕ) (c : Colour) → childNumber j c < children
-unfolding childNumber sumOf weight bitAt children
+unfolding childNumber sumOf bitWeight bitAt children
 child-small j c = omega arith
 
 -- A number below 8 whose binary digits are the channels' bits is the child number.
-child-is : (j : ℕ) (c : Colour) (k : ℕ) → k < children → ((h : Channel) → bitAt j (codeIn h c) ≡ k / weight h % 2) → childNumber j c ≡ k
-unfolding childNumber sumOf weight children
+child-is : (j : ℕ) (c : Colour) (k : ℕ) → k < children → ((h : Channel) → bitAt j (codeIn h c) ≡ k / bitWeight h % 2) → childNumber j c ≡ k
+unfolding childNumber sumOf bitWeight children
 child-is j c k b e = omega (arith, e Channel.Red, e Channel.Green, e Channel.Blue)
 
 -- "An octant of side s > 1 has eight children of side s/2, half-open." The colours of child k are exactly those of the octant whose child
@@ -106,8 +106,8 @@ child-is j c k b e = omega (arith, e Channel.Red, e Channel.Green, e Channel.Blu
 pub child-holds : {j : ℕ} {low : Colour} → Octant (suc j) low → (c : Colour) (k : ℕ) → k < children
     → (cubeHolds (2 ^ j) (childLow (2 ^ j) k low) c ≡ true) ↔ ((cubeHolds (2 ^ suc j) low c ≡ true) × (childNumber j c ≡ k))
 child-holds {j} {low} o c k b = (
-  λ e. let t : (h : Channel) → (Among (2 ^ suc j) (codeIn h low) (codeIn h c)) × (bitAt j (codeIn h c) ≡ k / weight h % 2) =
-      λ h. half-bit j (codeIn h low) (codeIn h c) (l .multiple h) (k / weight h % 2) (omega arith) (rw child-code at (cube-among _ _ c .0 e h)) in
+  λ e. let t : (h : Channel) → (Among (2 ^ suc j) (codeIn h low) (codeIn h c)) × (bitAt j (codeIn h c) ≡ k / bitWeight h % 2) =
+      λ h. half-bit j (codeIn h low) (codeIn h c) (l .multiple h) (k / bitWeight h % 2) (omega arith) (rw child-code at (cube-among _ _ c .0 e h)) in
       (cube-among _ low c .1 (λ h. t h .0), child-is j c k b (λ h. t h .1)),
   λ e. cube-among _ _ c .1 (λ h. rw (child-code, ← e .1, child-bit) (bit-half j (codeIn h low) (codeIn h c) (l .multiple h) (cube-among _ low c .0 (e .0) h))),
 )

@@ -11,15 +11,15 @@ use Rattle.colour.specs.Question.{firstNo}
 use Rattle.model.specs.SampleSet.{Settings}
 use Rattle.model.specs.Layout.{current, sampleHeader, octantHeader}
 use Rattle.model.specs.Tables.{Tables}
-use Rattle.model.specs.Machine.{Machine, Call, Clear, Load, Add, Remove, Ask, Answer, tablesOf, cleared, step, start, plain, clearQuestions, unlessRefused}
+use Rattle.model.specs.Machine.{Machine, Call, Clear, Load, Add, Remove, Ask, Answer, tablesOf, withSet, emptySet, step, startOn, start, plain, clearQuestions, unlessRefused}
 use Rattle.model.specs.Sound.{Shows, longEnough}
 use Rattle.model.specs.Meets.{Meets, ClearMeets, Follows, Refused, lent}
 use Rattle.model.specs.Trace.{Event, callOf, Happened, played, machineTrace, WholeDay}
 use Rattle.model.proofs.Tables.Unique.{samples-length, octants-length, current-complete}
-use Rattle.model.proofs.Machine.Valid.{step-valid, cleared-valid}
+use Rattle.model.proofs.Machine.Valid.{step-valid, started-valid}
 
 -- Sound tables pass question 1.
-pub sound-long : (m : Machine) (t : Tables) → Shows current m t → longEnough t ≡ true
+pub sound-long : (m : Machine) (t : Tables) → Shows current m t → longEnough current t ≡ true
 unfolding longEnough
 sound-long m t s =
     rw
@@ -28,7 +28,7 @@ sound-long m t s =
 
 -- A clear within the day.
 clear-next : (b : Settings) (m : Machine) → eqb (firstNo (clearQuestions b)) 0 ≡ true
-    → step m (Clear b) .next ≡ cleared b (m .sampleLength) (m .octantLength)
+    → step m (Clear b) .next ≡ withSet m (emptySet b)
 unfolding step unlessRefused
 clear-next b m e = rw (e, unlessRefused)
 
@@ -36,10 +36,10 @@ clear-stays : (b : Settings) (m : Machine) → eqb (firstNo (clearQuestions b)) 
 unfolding step unlessRefused
 clear-stays b m e = rw (e, unlessRefused)
 
-started : (b : Settings) (m : Machine) (t : Tables) → Shows current m t → start b t ≡ cleared b (m .sampleLength) (m .octantLength)
-unfolding start
+started : (b : Settings) (m : Machine) (t : Tables) → Shows current m t → start b t ≡ withSet m (emptySet b)
+unfolding start startOn withSet
 started b m t s =
-    λ i. cleared b (samples-length current current-complete m t s i) (octants-length current current-complete m t s i)
+    λ i. startOn b (samples-length current current-complete m t s i) (octants-length current current-complete m t s i)
 
 clear-follows : (b : Settings) (m : Machine) (t : Tables) (a : Answer) (t′ : Tables) → Shows current m t → ClearMeets b t a t′
     → Follows m (Clear b) a t′
@@ -82,7 +82,7 @@ whole-day b t h q a t₀ es r =
     let long = and-eq-true-iff (leb (sampleHeader current) (length (t .samples))) (leb (octantHeader current) (length (t .octants))) .0 h in
     let s : Shows current (start b t) t₀ =
     record {
-      valid = cleared-valid b (length (t .samples)) (length (t .octants)) (leb-true _ _ (long .0)) (leb-true _ _ (long .1)) q;
+      valid = started-valid b (length (t .samples)) (length (t .octants)) (leb-true _ _ (long .0)) (leb-true _ _ (long .1)) q;
       words = g .1;
     } in
     λ i. record { call = Clear b; answer = g .0 i; after = g .1 i } ∷ day-from es (start b t) t₀ s (r .1) i

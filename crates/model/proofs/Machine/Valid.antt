@@ -3,7 +3,8 @@ use Prim.Native.Nat.{ℕ, suc, _≤_}
 use mathlib.Core.Bool.{Bool, true, false, not, _&&_, true≢false, and-eq-true-iff}
 use mathlib.Core.List.{List, [], _∷_, _++_}
 use mathlib.Core.Option.{Option, none, some}
-use mathlib.Core.Path.{_≡_, refl, sym}
+use mathlib.Core.Path.{_≡_, refl, sym, ap, _∙_}
+use native.Mathlib.Numerals.{add-one}
 use lib.ListN.{length, length-append}
 use lib.Dec.{eqb, ltb, leb}
 use native.Mathlib.Omega.{arith}
@@ -18,8 +19,8 @@ use Rattle.sheet.proofs.Ranges.{Ranged, AllRanged, SheetRanged, sheet-ranged}
 use Rattle.model.specs.Lists.{keep}
 use Rattle.model.specs.SampleSet.{Settings, placedFrom, placed, octants}
 use Rattle.model.specs.Layout.{current, sampleHeader, octantHeader, sampleRows, octantRows}
-use Rattle.model.specs.Machine.{Machine, Call, Clear, Load, Add, Remove, Ask, withSamples, cleared, added, removed, hasTag, clearQuestions, roomQuestions, addQuestions, removeQuestions, unlessRefused, loadLines, load, step}
-use Rattle.model.specs.Sound.{Valid, distinct, inRange}
+use Rattle.model.specs.Machine.{Machine, Call, Clear, Load, Add, Remove, Ask, withSet, withSamples, emptySet, startOn, added, removed, hasTag, clearQuestions, fitQuestions, roomQuestions, addQuestions, removeQuestions, unlessRefused, loadLines, load, step}
+use Rattle.model.specs.Sound.{Valid, distinct, codesInRange}
 use Rattle.model.proofs.Lists.{keep-length}
 use Rattle.model.proofs.Tree.Octants.{no-octants, fewer-octants, keep-fewer}
 
@@ -52,12 +53,12 @@ module _ (p : Sample → Bool) where
       go true e i = rw (e, keep) (keep-tag (x .tag) xs (h .0), i)
       go false e i = rw (e, keep) i
 
-  keep-range : (xs : List Sample) → inRange xs → inRange (keep p xs)
-  unfolding keep inRange
+  keep-range : (xs : List Sample) → codesInRange xs → codesInRange (keep p xs)
+  unfolding keep codesInRange
   keep-range [] h = tt
   keep-range (x ∷ xs) h = go (p x) refl (keep-range xs (h .1))
     where
-      go : (r : Bool) → p x ≡ r → inRange (keep p xs) → inRange (keep p (x ∷ xs))
+      go : (r : Bool) → p x ≡ r → codesInRange (keep p xs) → codesInRange (keep p (x ∷ xs))
       go true e i = rw (e, keep) (h .0, i)
       go false e i = rw (e, keep) i
 
@@ -76,8 +77,8 @@ snoc-distinct s (x ∷ xs) d h =
       snoc-distinct s xs (d .1) (first-tag (s .tag) x xs h .1),
     )
 
-snoc-range : (s : Sample) (xs : List Sample) → inRange xs → codesFit (s .colour) ≡ true → inRange (xs ++ (s ∷ []))
-unfolding inRange
+snoc-range : (s : Sample) (xs : List Sample) → codesInRange xs → codesFit (s .colour) ≡ true → codesInRange (xs ++ (s ∷ []))
+unfolding codesInRange
 snoc-range s [] h c = (c, tt)
 snoc-range s (x ∷ xs) h c = (h .0, snoc-range s xs (h .1) c)
 
@@ -88,9 +89,9 @@ asked n true rest z h = (refl, h)
 asked n false rest z h = absurd (z h)
 
 -- A machine whose samples changed, within the same lengths.
-changed-valid : (m : Machine) (xs : List Sample) → Valid current m → distinct xs → inRange xs → length xs ≤ sampleRows current (m .sampleLength)
+changed-valid : (m : Machine) (xs : List Sample) → Valid current m → distinct xs → codesInRange xs → length xs ≤ sampleRows current (m .sampleLength)
     → octants (withSamples m xs .set) ≤ octantRows current (m .octantLength) → Valid current (withSamples m xs)
-unfolding withSamples
+unfolding withSamples withSet
 changed-valid m xs v d r n o =
     record {
       sample-words = v .sample-words;
@@ -104,14 +105,18 @@ changed-valid m xs v d r n o =
     }
 
 added-valid : (m : Machine) (s : Sample) → Valid current m → codesFit (s .colour) ≡ true → firstNo (roomQuestions m s) ≡ 0 → Valid current (added m s)
-unfolding roomQuestions added
+unfolding roomQuestions fitQuestions added withSamples withSet
 added-valid m s v c h =
     let xs : List Sample = m .set .samples in
-    let q5 = asked 5 (not (hasTag (s .tag) xs)) _ (λ z. omega arith) h in
-    let q6 = asked 6 (ltb (length xs) (sampleRows current (m .sampleLength))) _ (λ z. omega arith) (q5 .1) in
+    let q5 = asked 5 (not (hasTag (s .tag) xs)) (fitQuestions m (xs ++ (s ∷ []))) (λ z. omega arith) h in
+    let q6 = asked 6 (leb (length (xs ++ (s ∷ []))) (sampleRows current (m .sampleLength))) _ (λ z. omega arith) (q5 .1) in
     let q7 = asked 7 (leb (octants (added m s .set)) (octantRows current (m .octantLength))) _ (λ z. omega arith) (q6 .1) in
     changed-valid m (xs ++ (s ∷ [])) v (snoc-distinct s xs (v .tags-distinct) (not-true _ (q5 .0))) (snoc-range s xs (v .in-range) c)
-    (simp length-append (omega (arith, ltb-true (length xs) (sampleRows current (m .sampleLength)) (q6 .0)))) (leb-true _ _ (q7 .0))
+    (leb-true _ _ (q6 .0)) (leb-true _ _ (q7 .0))
+
+-- Question 6 asks for an unused row.
+pub row-unused : (xs : List Sample) (s : Sample) (rows : ℕ) → leb (length (xs ++ (s ∷ []))) rows ≡ ltb (length xs) rows
+row-unused xs s rows = ap (λ (n : ℕ). leb n rows) (length-append xs (s ∷ []) ∙ add-one (length xs))
 
 add-valid : (m : Machine) (s : Sample) → Valid current m → firstNo (addQuestions m s) ≡ 0 → Valid current (added m s)
 unfolding addQuestions
@@ -120,7 +125,7 @@ add-valid m s v e =
     added-valid m s v (q4 .0) (q4 .1)
 
 removed-valid : (m : Machine) (t : ℕ) → Valid current m → Valid current (removed m t)
-unfolding removed withSamples octants placed
+unfolding removed withSamples withSet octants placed
 removed-valid m t v =
     let p : Sample → Bool = λ s. not (eqb (s .tag) t) in
     let xs : List Sample = m .set .samples in
@@ -128,10 +133,10 @@ removed-valid m t v =
     (omega (arith, keep-length p xs, v .rows-fit))
     (omega (arith, fewer-octants (m .set .settings .bucket) depths (keep-fewer p 0 0 xs), v .octants-fit))
 
-pub cleared-valid : (b : Settings) (n k : ℕ) → sampleHeader current ≤ n → octantHeader current ≤ k → firstNo (clearQuestions b) ≡ 0
-    → Valid current (cleared b n k)
-unfolding clearQuestions distinct inRange octants placed placedFrom cleared
-cleared-valid b n k h g q =
+pub started-valid : (b : Settings) (n k : ℕ) → sampleHeader current ≤ n → octantHeader current ≤ k → firstNo (clearQuestions b) ≡ 0
+    → Valid current (startOn b n k)
+unfolding clearQuestions distinct codesInRange octants placed placedFrom startOn emptySet
+started-valid b n k h g q =
     let q3 = asked 3 (leb 1 (b .bucket) && leb (b .bucket) 256) [] (λ z. omega arith) q in
     let size = and-eq-true-iff (leb 1 (b .bucket)) (leb (b .bucket) 256) .0 (q3 .0) in
     record {
@@ -172,10 +177,10 @@ load-valid m none v f = v
 load-valid m (some lines) v f = lines-valid lines m 0 v f
 
 pub step-valid : (m : Machine) (c : Call) → Valid current m → Valid current (step m c .next)
-unfolding step
+unfolding step withSet startOn
 step-valid m (Clear b) v =
-    unless-valid (firstNo (clearQuestions b)) m (cleared b (m .sampleLength) (m .octantLength)) v
-    (λ e. cleared-valid b (m .sampleLength) (m .octantLength) (v .sample-words) (v .octant-words) e)
+    unless-valid (firstNo (clearQuestions b)) m (withSet m (emptySet b)) v
+    (λ e. started-valid b (m .sampleLength) (m .octantLength) (v .sample-words) (v .octant-words) e)
 step-valid m (Load s) v = load-valid m (linesOf s) v (sheet-ranged s)
 step-valid m (Add s) v = unless-valid (firstNo (addQuestions m s)) m (added m s) v (λ e. add-valid m s v e)
 step-valid m (Remove t) v = unless-valid (firstNo (removeQuestions m t)) m (removed m t) v (λ e. removed-valid m t v)

@@ -3,7 +3,7 @@ use borrow.Author.Needs.{needs}
 use Prim.Native.Nat.{_+_, _≤_}
 use native.Mathlib.Numerals.{add-one}
 use Rattle.colour.specs.Colour.{Channel, codeIn, colourBy}
-use Rattle.colour.specs.Octant.{weight, childLow, childCube}
+use Rattle.colour.specs.Octant.{bitWeight, childLow, childCube}
 use Rattle.colour.proofs.Laws.Cubes.{child-room, child-within, is-within}
 use Rattle.colour.proofs.octant.child.Statement.{statement}
 use Rattle.colour.proofs.octant.child.Tie as tie
@@ -30,7 +30,7 @@ unfolding codeIn
 child-code-requires-3 c κs = (search needs, room (c .before .before) Channel.Blue)
 
 returns : tie.Need-returns
-unfolding childCube childLow colourBy codeIn weight
+unfolding childCube childLow colourBy codeIn bitWeight
 returns c =
     let s = c .before .before .before .before .before .before in
     is-within (rw (c .before .before .child-code .ensures, c .before .child-code2 .ensures, c .child-code3 .ensures, c .before .before .before .side .ensures .0, add-one (s .args .c .depth))) (child-within _ _ (s .pre .0) (s .pre .1))
