@@ -1,3 +1,4 @@
 -- Laws of the reference machine: it stays within its tables, and the whole-day theorem.
 pub mod Valid
 pub mod Day
+pub mod Possible

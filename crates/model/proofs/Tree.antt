@@ -1,5 +1,6 @@
 -- Laws of the tree of octants: its order, its size, what a query counts on it, and the nearest sample.
 pub mod Order
+pub mod Cubes
 pub mod Octants
 pub mod Counts
 pub mod Nearest

@@ -1,6 +1,6 @@
 -- Cases a to l of document 01 and its walklist example, each a computed test on the definitions, gathered in one table with one theorem.
 use Prim.Native.Nat.{ℕ}
-use mathlib.Core.Bool.{Bool, true, false, _&&_}
+use mathlib.Core.Bool.{Bool, true, _&&_}
 use mathlib.Core.Path.{_≡_, refl}
 use mathlib.Core.List.{List, [], _∷_, _++_, map}
 use lib.Dec.{eqb}

@@ -3,7 +3,7 @@ use Prim.Native.Nat.{ℕ, suc}
 use mathlib.Core.Bool.{Bool, true, false, _&&_, not}
 use mathlib.Core.List.{List, [], _∷_, _++_}
 use mathlib.Core.Option.{Option, none, some}
-use lib.Dec.{leb, ltb, eqb}
+use lib.Dec.{leb, eqb}
 use lib.ListN.{length, drop}
 use Rattle.colour.specs.declared.Colour.{Colour}
 use Rattle.colour.specs.declared.Sample.{Sample}

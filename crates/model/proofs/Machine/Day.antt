@@ -27,16 +27,16 @@ sound-long m t s =
     (le-leb (octantHeader current) (length (t .octants)) (omega (arith, octants-length current current-complete m t s, s .valid .octant-words)))
 
 -- A clear within the day.
-clear-next : (b : Settings) (m : Machine) → eqb (firstNo (clearQuestions b)) 0 ≡ true
+pub clear-next : (b : Settings) (m : Machine) → eqb (firstNo (clearQuestions b)) 0 ≡ true
     → step m (Clear b) .next ≡ withSet m (emptySet b)
 unfolding step unlessRefused
 clear-next b m e = rw (e, unlessRefused)
 
-clear-stays : (b : Settings) (m : Machine) → eqb (firstNo (clearQuestions b)) 0 ≡ false → step m (Clear b) .next ≡ m
+pub clear-stays : (b : Settings) (m : Machine) → eqb (firstNo (clearQuestions b)) 0 ≡ false → step m (Clear b) .next ≡ m
 unfolding step unlessRefused
 clear-stays b m e = rw (e, unlessRefused)
 
-started : (b : Settings) (m : Machine) (t : Tables) → Shows current m t → start b t ≡ withSet m (emptySet b)
+pub started : (b : Settings) (m : Machine) (t : Tables) → Shows current m t → start b t ≡ withSet m (emptySet b)
 unfolding start startOn withSet
 started b m t s =
     λ i. startOn b (samples-length current current-complete m t s i) (octants-length current current-complete m t s i)

@@ -8,7 +8,7 @@ use native.Mathlib.Numerals.{add-one}
 use lib.ListN.{length, length-append}
 use lib.Dec.{eqb, ltb, leb}
 use native.Mathlib.Omega.{arith}
-use borrow.Author.Tests.{ltb-true, leb-true, eqb-true, eqb-false, ne-eqb, not-true}
+use borrow.Author.Tests.{leb-true, eqb-true, eqb-false, ne-eqb, not-true}
 use Rattle.colour.specs.declared.Sample.{Sample}
 use Rattle.colour.specs.Colour.{codesFit}
 use Rattle.colour.specs.Octant.{depths}
@@ -185,3 +185,42 @@ step-valid m (Load s) v = load-valid m (linesOf s) v (sheet-ranged s)
 step-valid m (Add s) v = unless-valid (firstNo (addQuestions m s)) m (added m s) v (λ e. add-valid m s v e)
 step-valid m (Remove t) v = unless-valid (firstNo (removeQuestions m t)) m (removed m t) v (λ e. removed-valid m t v)
 step-valid m (Ask q l) v = v
+
+-- The lengths stay the same throughout.
+pub record SameLengths (m m′ : Machine) : Type 0 where
+  pub samples : m′ .sampleLength ≡ m .sampleLength
+  pub octants : m′ .octantLength ≡ m .octantLength
+
+unless-lengths : (n : ℕ) (m done : Machine) → SameLengths m done → SameLengths m (unlessRefused n m done .next)
+unfolding unlessRefused
+unless-lengths n m done h = go (eqb n 0) refl
+  where
+    go : (r : Bool) → eqb n 0 ≡ r → SameLengths m (unlessRefused n m done .next)
+    go true e = rw (e, unlessRefused) h
+    go false e = rw (e, unlessRefused) (record { samples = refl; octants = refl })
+
+lines-lengths : (lines : List (Option Line)) (m : Machine) (k : ℕ) → SameLengths m (loadLines m k lines .next)
+unfolding loadLines added withSamples withSet
+lines-lengths [] m k = record { samples = refl; octants = refl }
+lines-lengths (none ∷ rest) m k = record { samples = refl; octants = refl }
+lines-lengths (some l ∷ rest) m k =
+    go (eqb (firstNo (roomQuestions m (l .sample))) 0) refl (lines-lengths rest (added m (l .sample)) (suc k))
+  where
+    go : (r : Bool) → eqb (firstNo (roomQuestions m (l .sample))) 0 ≡ r
+        → SameLengths (added m (l .sample)) (loadLines (added m (l .sample)) (suc k) rest .next)
+        → SameLengths m (loadLines m k (some l ∷ rest) .next)
+    go true e h = rw (e, loadLines) (record { samples = h .samples; octants = h .octants })
+    go false e h = rw (e, loadLines) (record { samples = refl; octants = refl })
+
+load-lengths : (m : Machine) (lines : Option (List (Option Line))) → SameLengths m (load m lines .next)
+unfolding load
+load-lengths m none = record { samples = refl; octants = refl }
+load-lengths m (some lines) = lines-lengths lines m 0
+
+pub step-lengths : (m : Machine) (c : Call) → SameLengths m (step m c .next)
+unfolding step added removed withSamples withSet
+step-lengths m (Clear b) = unless-lengths (firstNo (clearQuestions b)) m _ (record { samples = refl; octants = refl })
+step-lengths m (Load s) = load-lengths m (linesOf s)
+step-lengths m (Add s) = unless-lengths (firstNo (addQuestions m s)) m _ (record { samples = refl; octants = refl })
+step-lengths m (Remove t) = unless-lengths (firstNo (removeQuestions m t)) m _ (record { samples = refl; octants = refl })
+step-lengths m (Ask q l) = record { samples = refl; octants = refl }

@@ -7,6 +7,7 @@ use lib.Seq.{take-at, drop-at}
 use native.Mathlib.Omega.{arith}
 use Rattle.colour.specs.declared.Sample.{Sample}
 use Rattle.colour.specs.Colour.{Channel, Red, Green, Blue, codeIn}
+use Rattle.colour.proofs.Laws.Channels.{same-codes}
 use Rattle.model.specs.Lists.{padded}
 use Rattle.model.specs.SampleSet.{SampleSet, Placed, placedFrom, placed, order}
 use Rattle.model.specs.Layout.{Layout, Bucket, Tag, Code, current}
@@ -49,8 +50,7 @@ module _ {A : Type 0} where
   back-same a b c d n e = sym (drop-at a b (length a) refl) ∙ ap (lib.ListN.drop (length a)) e ∙ drop-at c d (length a) (sym n)
 
 sample-same : (s t : Sample) → s .tag ≡ t .tag → ((h : Channel) → codeIn h (s .colour) ≡ codeIn h (t .colour)) → s ≡ t
-unfolding codeIn
-sample-same s t e c = λ i. record { tag = e i; colour = record { red = c Red i; green = c Green i; blue = c Blue i } }
+sample-same s t e c = λ i. record { tag = e i; colour = same-codes (s .colour) (t .colour) c i }
 
 -- Every word is below n; every tag is.
 unfoldable pub AllBelow : ℕ → List ℕ → Type 0

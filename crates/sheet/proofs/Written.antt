@@ -1,0 +1,39 @@
+-- A number fills its columns, and a written line has 62 bytes (document 01, "Sheets").
+use Prim.Native.Nat.{ℕ, zero, suc, _+_, _-_, _/_, _%_, _≤_}
+use mathlib.Core.Bool.{Bool, true, false}
+use mathlib.Core.List.{List, [], _∷_}
+use mathlib.Core.Path.{_≡_, refl, _∙_}
+use lib.Dec.{ltb}
+use lib.ListN.{length, replicate, length-append, length-replicate}
+use native.Mathlib.Omega.{arith}
+use Rattle.colour.specs.declared.Sample.{Sample}
+use Rattle.sheet.specs.Column.{blank, decimal, columnOf}
+use Rattle.sheet.specs.Line.{tagColumns, codeColumns, nameColumns, redStart, greenStart, blueStart, blankAt, nameStart, newlineAt, lineLength, lineBytes}
+
+decimal-most : (w n : ℕ) → length (decimal w n) ≤ w
+unfolding decimal
+decimal-most zero n = omega arith
+decimal-most (suc w) n = go (ltb n 10) refl (decimal-most w (n / 10))
+  where
+    go : (r : Bool) → ltb n 10 ≡ r → length (decimal w (n / 10)) ≤ w → length (decimal (suc w) n) ≤ suc w
+    go true e h = rw (e, decimal) (omega arith)
+    go false e h = rw (e, decimal) (omega (arith, length-append (decimal w (n / 10)) ((48 + n % 10) ∷ [])))
+
+pub column-length : (w n : ℕ) → length (columnOf w n) ≡ w
+unfolding columnOf
+column-length w n =
+    length-append (replicate (w - length (decimal w n)) blank) (decimal w n)
+    ∙ omega (arith, length-replicate (w - length (decimal w n)) blank, decimal-most w n)
+
+pub line-bytes-length : (s : Sample) (name : List ℕ) → length name ≤ nameColumns → length (lineBytes s name) ≡ lineLength
+unfolding lineBytes lineLength newlineAt nameStart blankAt blueStart greenStart redStart
+line-bytes-length s name h =
+    simp length-append
+    (omega (
+      arith,
+      column-length tagColumns (s .tag),
+      column-length codeColumns (s .colour .red),
+      column-length codeColumns (s .colour .green),
+      column-length codeColumns (s .colour .blue),
+      length-replicate (nameColumns - length name) blank,
+    ))
