@@ -1,0 +1,152 @@
+//! Values of the definitions of sheets: columns, lines, headers, names, what is written and what walklist prints.
+
+use crate::antt::{arguments, bytes, numbers, Output};
+use crate::pseudo_random::{codes, tag};
+use crate::random::Random;
+use crate::sheets::{damaged_line, header, line, name, of_samples, sheet, LINE};
+use crate::straight_scan::{self, Sample};
+use crate::values::{optional, value, Value};
+
+fn columns(random: &mut Random) -> Vec<Value> {
+    let given = "| |0|00|01|10|     0|    00|999999|65535 |6 5535| +1|-1|4294967295|4294967296|9999999999|0000000001\
+                 |          |         0|1|12a|\t1|1\n|0 | 0 |5:|5/";
+    let mut columns: Vec<Vec<u8>> = given.split('|').map(|text| text.as_bytes().to_vec()).collect();
+    for _ in 0..25 {
+        let mut column = format!("{:>10}", random.word() >> random.below(32)).into_bytes();
+        column[random.below(10)] = random.one_of(b" 09/:\0\xFF");
+        columns.push(column);
+    }
+    let compared =
+        |c: &Vec<u8>| optional(format!("columnValue {}", bytes(c)), straight_scan::column(c).map(|n| vec![n]));
+    columns.iter().map(compared).collect()
+}
+
+fn lines(random: &mut Random) -> Vec<Vec<u8>> {
+    let mut lines = vec![vec![], vec![b' '; LINE], vec![b'0'; LINE]];
+    // Numbers at the ends of their range and past them: 2^32 itself is one too many.
+    for tag in [0, 9, 10, 999_999_999, 4_294_967_294, 4_294_967_295, 4_294_967_296, 4_294_967_297, 9_999_999_999] {
+        lines.push(line(tag, [0, 10, 65_535], b"Z"));
+    }
+    for over in [65_534, 65_535, 65_536, 65_537, 99_999, 100_000, 999_999] {
+        lines.extend([[over, 1, 2], [1, over, 2], [1, 2, over]].map(|codes| line(7, codes, b"Z")));
+    }
+    // Every byte of a line altered, of one with a short name and of one without a blank to spare.
+    let short = line(120, [65_535, 7, 0], b"A001");
+    let full = line(4_294_967_295, [65_535; 3], &[b'~'; 32]);
+    for at in 0..LINE {
+        for (good, byte) in [(&short, b' '), (&short, b'0'), (&short, b'\n'), (&full, random.one_of(b" !\x7F91"))] {
+            let mut altered = good.clone();
+            altered[at] = byte;
+            lines.push(altered);
+        }
+    }
+    for _ in 0..40 {
+        let (tag, codes) = (tag(random), codes(random));
+        lines.push(damaged_line(random, tag, codes));
+    }
+    for change in [Vec::pop, |l: &mut Vec<u8>| Some(l.remove(0))] {
+        let mut shorter = short.clone();
+        change(&mut shorter);
+        lines.push(shorter);
+    }
+    lines.push([&short[..], b"\n"].concat());
+    lines.push([b" ", &short[..]].concat());
+    lines
+}
+
+fn line_value(line: &Vec<u8>) -> Value {
+    let said = straight_scan::line(line).map(|(sample, name_length)| {
+        let [red, green, blue] = sample.codes.map(u64::from);
+        vec![sample.tag as u64, red, green, blue, name_length as u64]
+    });
+    optional(format!("lineValue {}", bytes(line)), said)
+}
+
+fn sheets(random: &mut Random) -> Vec<Vec<u8>> {
+    let mut sheets: Vec<Vec<u8>> =
+        ["", "SWATCHES", "SWATCHES     0", "SWATCHES000000\n", "SWATCHES     0\n\n", "SWATCHES\n"]
+            .map(|text| text.as_bytes().to_vec())
+            .to_vec();
+    sheets.extend([header(0), header(1), header("-0"), header("0     ")]);
+    for _ in 0..20 {
+        let samples: Vec<Sample> =
+            (0..random.below(5)).map(|_| Sample { tag: 5 + random.below(3) as u32, codes: codes(random) }).collect();
+        sheets.push(of_samples(random, &samples));
+    }
+    // Each line of three damaged in turn, with a tag that stands twice: a bad line anywhere leaves no name.
+    for damaged in 0..4 {
+        for _ in 0..4 {
+            let mut lines: Vec<Vec<u8>> = [4, 5, 5].map(|tag| line(tag, [1, 2, 3], &name(random))).to_vec();
+            if damaged < 3 {
+                lines[damaged] = damaged_line(random, 7, [1, 2, 3]);
+            }
+            sheets.push(sheet(&lines));
+        }
+    }
+    sheets
+}
+
+fn name_value(sheet: &[u8], tag: u32) -> Value {
+    let part = straight_scan::name_of(sheet, tag);
+    let name = sheet[part.clone()].iter().map(|&b| b as u64);
+    let said: Vec<u64> = [part.start as u64, part.len() as u64].into_iter().chain(name).collect();
+    let outcome = if part.is_empty() { "empty" } else { "found" };
+    value(format!("nameValue {} {tag}", bytes(sheet)), numbers(&said), outcome)
+}
+
+fn writes(random: &mut Random) -> Vec<Value> {
+    let long = [b'A'; 40];
+    let names: [&[u8]; 9] = [b"A001", b"!", b"~", &long[..32], &long[..33], &long, b"", b"A B", b"A\x7F"];
+    let colours = [[0, 65_535, 10], [65_536, 0, 0], [0, 65_536, 0], [0, 0, u32::MAX]];
+    let mut values = Vec::new();
+    // Each name with each colour and length: where two questions say no, the first is the number.
+    for name in names {
+        for colour in colours {
+            for length in [0, 61, 62, 70] {
+                let tag = tag(random);
+                let lent: Vec<u8> = (0..length).map(|_| random.below(256) as u8).collect();
+                let mut left = lent.clone();
+                let number = straight_scan::write_line(tag, colour, name, &mut left);
+                let arguments = format!("(sample {tag} {}) {} {}", arguments(&colour), bytes(name), bytes(&lent));
+                let expected = format!("({number} ∷ {})", bytes(&left));
+                values.push(value(format!("writeValue {arguments}"), expected, number));
+            }
+        }
+    }
+    values
+}
+
+fn walklists(random: &mut Random) -> Vec<Value> {
+    let mut sheets = sheets(random);
+    let mut samples = Vec::new();
+    for k in 0..12 {
+        samples.push(line(100 - k, codes(random).map(u64::from), &name(random)));
+    }
+    sheets.push(sheet(&samples));
+    let compared = |input: &Vec<u8>, term: String| {
+        let printed = straight_scan::walklist(input);
+        let outcome = if printed.starts_with("REFUSED") { "refused" } else { "listed" };
+        value(format!("walklistPrints {term}"), bytes(printed.as_bytes()), outcome)
+    };
+    let mut values: Vec<Value> = sheets.iter().map(|s| compared(s, bytes(s))).collect();
+    // About 32,768 bytes, past which all is cut off: 528 lines are 32,751.
+    for (head, blanks) in [(header(528), 32_736), (header(528), 32_753), (header(528), 32_754), (header(529), 32_798)] {
+        let input = [&head[..], &vec![b' '; blanks]].concat();
+        values.push(compared(&input, format!("({} ++ replicate {blanks} 32)", bytes(&head))));
+    }
+    values
+}
+
+pub fn all(output: &mut Output, random: &mut Random) {
+    let sheets = sheets(random);
+    let count =
+        |s: &Vec<u8>| optional(format!("countValue {}", bytes(s)), straight_scan::header(s).map(|n| vec![n as u64]));
+    let names = sheets.iter().flat_map(|s| [4, 5, 7].map(|tag| name_value(s, tag)));
+    output.module();
+    output.values("columnNumber", &columns(random));
+    output.values("lineCount", &sheets.iter().map(count).collect::<Vec<_>>());
+    output.values("lineOf", &lines(random).iter().map(line_value).collect::<Vec<_>>());
+    output.values("namePart", &names.collect::<Vec<_>>());
+    output.values("writeLine", &writes(random));
+    output.values("walklistPrints", &walklists(random));
+}

@@ -1,0 +1,110 @@
+//! Values of single definitions: floats to codes and back, keys, row counts and first clears.
+
+use crate::antt::{arguments, numbers, Output};
+use crate::floats;
+use crate::pseudo_random::codes;
+use crate::random::Random;
+use crate::straight_scan::{self, Bin, Codes};
+
+/// A definition's value and the straight scan's, as terms, and what to count it under.
+pub struct Value {
+    pub computed: String,
+    pub expected: String,
+    pub outcome: String,
+}
+
+pub fn value(computed: String, expected: String, outcome: impl ToString) -> Value {
+    Value { computed, expected, outcome: outcome.to_string() }
+}
+
+/// An optional value: none is the empty list.
+pub fn optional(computed: String, found: Option<Vec<u64>>) -> Value {
+    let outcome = if found.is_some() { "some" } else { "none" };
+    value(computed, numbers(&found.unwrap_or_default()), outcome)
+}
+
+fn codes_value(panel: [u32; 3]) -> Value {
+    let (number, codes) = match straight_scan::colour(panel.map(f32::from_bits)) {
+        Some(codes) => (0, codes.map(u64::from)),
+        None => (9, [0; 3]),
+    };
+    let said = numbers(&[&[number], &codes[..]].concat());
+    value(format!("codesValue {}", arguments(&panel)), said, number)
+}
+
+fn panels(random: &mut Random) -> Vec<[u32; 3]> {
+    let mut panels = Vec::new();
+    for float in floats::BAD.into_iter().chain(floats::ODD) {
+        panels.extend([[float, 0x3F00_0000, 0x3F7F_FFFF], [0, float, 0x8000_0000], [0x3F7F_FFFF, 0, float]]);
+    }
+    for _ in 0..25 {
+        panels.push(codes(random).map(|code| floats::with_code(random, code)));
+        panels.push([(); 3].map(|()| random.word() >> 2));
+        panels.push([random.word(), random.word() >> 2, 0x3780_0000]);
+    }
+    panels
+}
+
+fn shown_colours(random: &mut Random) -> Vec<Codes> {
+    let mut colours: Vec<Codes> = (0..16).map(|bit| [1 << bit, (1 << bit) - 1, 65_535 - (1 << bit)]).collect();
+    colours.extend((0..25).map(|_| codes(random)));
+    for over in [65_536, 65_537, u32::MAX] {
+        colours.extend([[over, 1, 2], [1, over, 2], [1, 2, over]]);
+    }
+    colours
+}
+
+fn floats_value(colour: Codes) -> Value {
+    let (number, panel) = match straight_scan::shown(colour) {
+        Ok(panel) => (0, panel.map(f32::to_bits)),
+        Err(number) => (number, [0; 3]),
+    };
+    let expected = format!("(panelNumbers {number} (panel {}))", arguments(&panel));
+    value(format!("floatsValue {}", arguments(&colour)), expected, number)
+}
+
+/// The key by halving cubes from the root down, as no definition of it does.
+fn key_value(colour: Codes) -> Value {
+    let (mut low, mut side, mut key) = ([0; 3], 65_536, 0u64);
+    while side > 1 {
+        side /= 2;
+        key *= 8;
+        for i in 0..3 {
+            if colour[i] >= low[i] + side {
+                low[i] += side;
+                key += 1 << i;
+            }
+        }
+    }
+    value(format!("number (key (colour {}))", arguments(&colour)), numbers(&[key]), "some")
+}
+
+fn rows_value(length: usize) -> Value {
+    let set = Bin { samples: vec![], bucket: 1, sample_words: length, octant_words: length };
+    let said = [set.sample_rows() as u64, set.octant_rows() as u64];
+    value(format!("rowsValue {length}"), numbers(&said), "some")
+}
+
+/// First clears, also those that are refused, on which no sequence can follow.
+fn start_value(bucket: u32, sample_words: usize, octant_words: usize) -> Value {
+    let number = straight_scan::start(sample_words, octant_words, bucket).map_or_else(|number| number, |_| 0);
+    let computed = format!("number (startNumber {bucket} {sample_words} {octant_words})");
+    value(computed, numbers(&[number as u64]), number)
+}
+
+pub fn all(output: &mut Output, random: &mut Random) {
+    let panels = panels(random);
+    let colours = shown_colours(random);
+    output.module();
+    output.values("floatsToCodes", &panels.into_iter().map(codes_value).collect::<Vec<_>>());
+    output.values("codesToFloats", &colours.iter().map(|&c| floats_value(c)).collect::<Vec<_>>());
+    output.values("key", &colours.iter().take(41).map(|&c| key_value(c)).collect::<Vec<_>>());
+    let lengths =
+        [2, 3, 6, 7, 8, 11, 12, 13, 22, 23, 24, 20_481, 20_482, 20_486, 20_487, 20_488, 30_000, 4_294_967_295];
+    output.values("rows", &lengths.map(rows_value));
+    let mut starts = Vec::new();
+    for bucket in [0, 1, 2, 256, 257, u32::MAX] {
+        starts.extend([(2, 1), (1, 1), (2, 0), (0, 0), (7, 12)].map(|(s, o)| start_value(bucket, s, o)));
+    }
+    output.values("start", &starts);
+}
