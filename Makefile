@@ -1,10 +1,11 @@
-# make            prove every crate, and build target/staticlib/libhubeltxa.a
-# make test       the whole test, from nothing; its last line is rt's verdict
-# make test-long  all 2^32 floats in each channel, compared with the straight scan
-# make fmt        format Rattle and Rust
-# make clean      remove what is built
+# make              prove every crate, and build target/staticlib/libhubeltxa.a
+# make test         the whole test, from nothing; its last line is rt's verdict
+# make test-long    all 2^32 floats in each channel, compared with the straight scan
+# make definitions  the definitions, compared with the straight scan by computing both
+# make fmt          format Rattle and Rust
+# make clean        remove what is built
 
-.PHONY: all test test-long fmt clean
+.PHONY: all test test-long definitions fmt clean
 
 all:
 	@rt check
@@ -17,9 +18,13 @@ test-long:
 	@rt staticlib hubeltxa
 	@cd rust && cargo test --release --offline -- --ignored
 
+definitions:
+	@tools/definitions/run
+
 fmt:
 	@rt fmt
 	@cd rust && cargo fmt
+	@rustfmt --edition 2021 tools/definitions/generator/main.rs
 
 clean:
 	@rm -rf target rust/target

@@ -14,15 +14,17 @@ use Rattle.colour.specs.Key.{key}
 use Rattle.model.specs.Computes.{computes}
 use Rattle.model.specs.Machine.{Load, Remove}
 use Rattle.model.specs.Walklist.{walklistPrints}
-use Rattle.vectors.specs.Harness.{Expected, AsBefore, Words, Value, words, bytes, float, panel, colour, sample, harness}
-use Rattle.vectors.specs.Harness.{clear, add, ball, nearest, box, expect, sequencePart, value, valuesPart, number}
-use Rattle.vectors.specs.Harness.{columnValue, countValue, lineValue, writeValue, nameValue, codesValue, floatsValue}
-use Rattle.vectors.specs.Harness.{panelNumbers, rowsValue, startNumber}
+use Rattle.vectors.specs.Harness.{words, bytes, panel, colour, sample, harness}
+use Rattle.vectors.specs.Harness.{clear, add, ball, nearest, box, Expected, expect, AsBefore, Words, sequencePart}
+use Rattle.vectors.specs.Harness.{Value, value, valuesPart, number, columnValue, countValue, lineValue, writeValue}
+use Rattle.vectors.specs.Harness.{nameValue, codesValue, floatsValue, panelNumbers, rowsValue, startNumber, bitOf}
 ";
 
-/// What is generated: modules of declarations, what each call or value is, and how many were compared.
+/// What is generated: modules of declarations, what each call or value is, and how many were compared. Where names are
+/// given, only those lists, to be read off bit by bit.
 #[derive(Default)]
 pub struct Output {
+    pub only: Vec<String>,
     pub modules: Vec<String>,
     pub index: String,
     pub counts: BTreeMap<(&'static str, String), u64>,
@@ -70,14 +72,11 @@ fn call(call: &Call) -> String {
     }
 }
 
-/// A list under a name, and that comparing it gives []. The type of the theorem stays short, so that the checker prints what it
-/// computes to where it is not [].
-fn declaration(name: &str, of: &str, entries: &[String], compared: &str) -> String {
-    let list: String = entries.iter().map(|entry| format!("  {entry} ∷\n")).collect();
-    format!(
-        "\nunfoldable pub {name} : List {of}\n{name} =\n{list}  []\n\n\
-         pub {name}-agrees : {compared} {name} ≡ []\nunfolding computes harness {name}\n{name}-agrees = refl\n"
-    )
+/// The bits of the three numbers that say where two part: a call or value, what or a word, a word.
+const BITS: [usize; 3] = [6, 11, 11];
+
+fn theorem(name: &str, list: &str, statement: String) -> String {
+    format!("\npub {name} : {statement}\nunfolding computes harness {list}\n{name} = refl\n")
 }
 
 impl Output {
@@ -85,7 +84,22 @@ impl Output {
         self.modules.push(HEAD.to_string());
     }
 
-    fn declare(&mut self, text: String) {
+    /// A list under a name, and that comparing it gives [], or the theorems that its bits are 0.
+    fn declare(&mut self, name: &str, of: &str, entries: &[String], compared: &str) {
+        let list: String = entries.iter().map(|entry| format!("  {entry} ∷\n")).collect();
+        let mut text = format!("\nunfoldable pub {name} : List {of}\n{name} =\n{list}  []\n");
+        if self.only.is_empty() {
+            text += &theorem(&format!("{name}-agrees"), name, format!("{compared} {name} ≡ []"));
+        } else if self.only.iter().any(|only| only == name) {
+            for (k, bits) in BITS.into_iter().enumerate() {
+                for i in 0..bits {
+                    let statement = format!("bitOf {k} {i} ({compared} {name}) ≡ 0");
+                    text += &theorem(&format!("{name}-bit-{k}-{i}"), name, statement);
+                }
+            }
+        } else {
+            return;
+        }
         self.modules.last_mut().expect("a module").push_str(&text);
     }
 
@@ -101,7 +115,7 @@ impl Output {
         let (samples, octants) = (words(&tables.0), words(&tables.1));
         let compared = format!("sequencePart {bucket} {sample_words} {octant_words} {samples} {octants}");
         self.count("first clear", 0);
-        writeln!(self.index, "{name}\t0\tthe first clear, bucket size {bucket}").unwrap();
+        writeln!(self.index, "{name}\t0\tcall\tthe first clear, bucket size {bucket}").unwrap();
         let mut entries = Vec::new();
         for (k, made) in calls.iter().enumerate() {
             let answer = set.call(made);
@@ -117,9 +131,9 @@ impl Output {
             let answered = numbers(&[&fields[..], &[a.d2]].concat());
             entries.push(format!("expect {} {answered} {} {left_term}", call(made), words(&a.listing)));
             self.count(kind(made), answer.number);
-            writeln!(self.index, "{name}\t{}\t{}", k + 1, describe(made)).unwrap();
+            writeln!(self.index, "{name}\t{}\tcall\t{}", k + 1, describe(made)).unwrap();
         }
-        self.declare(declaration(name, "Expected", &entries, &compared));
+        self.declare(name, "Expected", &entries, &compared);
     }
 
     /// Values of one definition, a few to a declaration.
@@ -128,10 +142,10 @@ impl Output {
             let name = format!("{definition}-{}", part + 1);
             for (k, value) in few.iter().enumerate() {
                 self.count(definition, &value.outcome);
-                writeln!(self.index, "{name}\t{}\t{} should be {}", k + 1, value.computed, value.expected).unwrap();
+                writeln!(self.index, "{name}\t{}\tvalue\t{}", k + 1, value.described).unwrap();
             }
             let entries: Vec<String> = few.iter().map(|v| format!("value ({}) {}", v.computed, v.expected)).collect();
-            self.declare(declaration(&name, "Value", &entries, "valuesPart 1"));
+            self.declare(&name, "Value", &entries, "valuesPart 1");
         }
     }
 }

@@ -1,6 +1,7 @@
 //! Writes antt in which the definitions' answers are compared with the straight scan's, and prints how many there are.
 //!
 //! `generator FOLDER SEED CALLS`: the modules go to FOLDER/specs, and FOLDER/index says what each call or value is.
+//! With NAMES after it, only those lists are written, with theorems from which to read where the two part.
 
 mod antt;
 mod calls;
@@ -24,8 +25,8 @@ use std::fs::write;
 const CALLS_OF_SEQUENCE: usize = 14;
 const SEQUENCES_OF_MODULE: usize = 12;
 
-fn generate(seed: u64, calls: usize) -> Output {
-    let mut output = Output::default();
+fn generate(seed: u64, calls: usize, only: &[String]) -> Output {
+    let mut output = Output { only: only.to_vec(), ..Output::default() };
     for few in targeted::all().chunks(SEQUENCES_OF_MODULE) {
         output.module();
         few.iter().for_each(|sequence| output.sequence(sequence));
@@ -46,8 +47,8 @@ fn generate(seed: u64, calls: usize) -> Output {
 
 fn main() -> std::io::Result<()> {
     let arguments: Vec<String> = std::env::args().collect();
-    let [_, folder, seed, calls] = &arguments[..] else { panic!("FOLDER SEED CALLS") };
-    let output = generate(seed.parse().expect("SEED is a number"), calls.parse().expect("CALLS is a number"));
+    let [_, folder, seed, calls, only @ ..] = &arguments[..] else { panic!("FOLDER SEED CALLS NAMES") };
+    let output = generate(seed.parse().expect("SEED is a number"), calls.parse().expect("CALLS is a number"), only);
     let mut lib = "pub mod Harness\n".to_string();
     for (k, text) in output.modules.iter().enumerate() {
         write(format!("{folder}/specs/Part{}.antt", k + 1), text)?;

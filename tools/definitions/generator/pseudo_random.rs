@@ -1,5 +1,5 @@
-//! Pseudo-random sequences. Chance alone seldom meets an edge, so colours, radii and lengths are mostly taken from edges and from
-//! what the set holds.
+//! Pseudo-random sequences. Chance alone seldom meets an edge, so colours, radii and lengths are mostly taken from
+//! edges and from what the set holds.
 
 use crate::calls::{add, ball, in_box, nearest, octant_words, sample_words, Sequence};
 use crate::floats;
@@ -50,7 +50,8 @@ fn held(random: &mut Random, set: &Bin) -> Option<Sample> {
     }
 }
 
-/// Mostly a colour that the set holds, or one that parts from it at the last depth, at some depth, or at the root's middle plane.
+/// Mostly a colour that the set holds, or one that parts from it at the last depth, at some depth, or at the planes
+/// through the middle of the root.
 fn colour_near(random: &mut Random, set: &Bin) -> Codes {
     let Some(sample) = held(random, set).filter(|_| !random.once_in(3)) else {
         return if random.once_in(3) { [(); 3].map(|()| random.one_of(&[32_767, 32_768])) } else { codes(random) };
@@ -92,8 +93,8 @@ fn panel(random: &mut Random, codes: Codes) -> [u32; 3] {
     codes.map(|code| float(random, code))
 }
 
-/// A ball or a nearest query, two times in three with a radius about the distance of a sample. One time in two that distance is a
-/// whole number (along a channel, or 2, 3, 6), so that d² = r² is met.
+/// A ball or a nearest query, two times in three with a radius about the distance of a sample. One time in two that
+/// distance is a whole number (along a channel, or by steps as 2, 3, 6), so that d² = r² is met.
 fn round_query(random: &mut Random, set: &Bin, make: fn([u32; 3], u32, &[u32]) -> Call) -> Call {
     let mut centre = colour_near(random, set);
     let mut radius = random.one_of(&RADII);

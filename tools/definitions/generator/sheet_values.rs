@@ -4,8 +4,15 @@ use crate::antt::{arguments, bytes, numbers, Output};
 use crate::pseudo_random::{codes, tag};
 use crate::random::Random;
 use crate::sheets::{damaged_line, header, line, name, of_samples, sheet, LINE};
-use crate::straight_scan::{self, Sample};
-use crate::values::{optional, value, Value};
+use crate::straight_scan::{self, Codes, Sample};
+use crate::values::{value, Value};
+
+/// The value of a function on a text, none being the empty list.
+fn of_text(function: &str, text: &[u8], found: Option<Vec<u64>>) -> Value {
+    let outcome = if found.is_some() { "some" } else { "none" };
+    value(format!("{function} {}", bytes(text)), numbers(&found.unwrap_or_default()), outcome)
+        .described(format!("{function} \"{}\"", text.escape_ascii()))
+}
 
 fn columns(random: &mut Random) -> Vec<Value> {
     let given = "| |0|00|01|10|     0|    00|999999|65535 |6 5535| +1|-1|4294967295|4294967296|9999999999|0000000001\
@@ -16,9 +23,10 @@ fn columns(random: &mut Random) -> Vec<Value> {
         column[random.below(10)] = random.one_of(b" 09/:\0\xFF");
         columns.push(column);
     }
-    let compared =
-        |c: &Vec<u8>| optional(format!("columnValue {}", bytes(c)), straight_scan::column(c).map(|n| vec![n]));
-    columns.iter().map(compared).collect()
+    columns
+        .iter()
+        .map(|column| of_text("columnValue", column, straight_scan::column(column).map(|n| vec![n])))
+        .collect()
 }
 
 fn lines(random: &mut Random) -> Vec<Vec<u8>> {
@@ -59,7 +67,7 @@ fn line_value(line: &Vec<u8>) -> Value {
         let [red, green, blue] = sample.codes.map(u64::from);
         vec![sample.tag as u64, red, green, blue, name_length as u64]
     });
-    optional(format!("lineValue {}", bytes(line)), said)
+    of_text("lineValue", line, said)
 }
 
 fn sheets(random: &mut Random) -> Vec<Vec<u8>> {
@@ -92,25 +100,32 @@ fn name_value(sheet: &[u8], tag: u32) -> Value {
     let said: Vec<u64> = [part.start as u64, part.len() as u64].into_iter().chain(name).collect();
     let outcome = if part.is_empty() { "empty" } else { "found" };
     value(format!("nameValue {} {tag}", bytes(sheet)), numbers(&said), outcome)
+        .described(format!("name of {tag} in \"{}\"", sheet.escape_ascii()))
 }
 
+fn write_value(random: &mut Random, colour: Codes, name: &[u8], length: usize) -> Value {
+    let tag = tag(random);
+    let lent: Vec<u8> = (0..length).map(|_| random.below(256) as u8).collect();
+    let mut left = lent.clone();
+    let number = straight_scan::write_line(tag, colour, name, &mut left);
+    let computed = format!("writeValue (sample {tag} {}) {} {}", arguments(&colour), bytes(name), bytes(&lent));
+    let described = format!("write {tag} {colour:?} \"{}\" over {length} bytes", name.escape_ascii());
+    value(computed, format!("({number} ∷ {})", bytes(&left)), number).described(described)
+}
+
+/// Where two questions say no, the first is the number: bad names come with short lengths, and bad colours with both.
 fn writes(random: &mut Random) -> Vec<Value> {
     let long = [b'A'; 40];
-    let names: [&[u8]; 9] = [b"A001", b"!", b"~", &long[..32], &long[..33], &long, b"", b"A B", b"A\x7F"];
-    let colours = [[0, 65_535, 10], [65_536, 0, 0], [0, 65_536, 0], [0, 0, u32::MAX]];
+    let names: [&[u8]; 10] = [b"A001", b"!", b"~", b"A=9", &long[..32], &long[..33], &long, b"", b"A B", b"A\x7F"];
     let mut values = Vec::new();
-    // Each name with each colour and length: where two questions say no, the first is the number.
     for name in names {
-        for colour in colours {
-            for length in [0, 61, 62, 70] {
-                let tag = tag(random);
-                let lent: Vec<u8> = (0..length).map(|_| random.below(256) as u8).collect();
-                let mut left = lent.clone();
-                let number = straight_scan::write_line(tag, colour, name, &mut left);
-                let arguments = format!("(sample {tag} {}) {} {}", arguments(&colour), bytes(name), bytes(&lent));
-                let expected = format!("({number} ∷ {})", bytes(&left));
-                values.push(value(format!("writeValue {arguments}"), expected, number));
-            }
+        for length in [0, 61, 62, 63, 70] {
+            let colour = codes(random);
+            values.push(write_value(random, colour, name, length));
+        }
+        for colour in [[65_536, 0, 0], [0, 65_536, 0], [0, 0, u32::MAX]] {
+            let length = random.one_of(&[61, 62]);
+            values.push(write_value(random, colour, name, length));
         }
     }
     values
@@ -127,6 +142,7 @@ fn walklists(random: &mut Random) -> Vec<Value> {
         let printed = straight_scan::walklist(input);
         let outcome = if printed.starts_with("REFUSED") { "refused" } else { "listed" };
         value(format!("walklistPrints {term}"), bytes(printed.as_bytes()), outcome)
+            .described(format!("walklist of \"{}\"", input[..input.len().min(200)].escape_ascii()))
     };
     let mut values: Vec<Value> = sheets.iter().map(|s| compared(s, bytes(s))).collect();
     // About 32,768 bytes, past which all is cut off: 528 lines are 32,751.
@@ -139,8 +155,7 @@ fn walklists(random: &mut Random) -> Vec<Value> {
 
 pub fn all(output: &mut Output, random: &mut Random) {
     let sheets = sheets(random);
-    let count =
-        |s: &Vec<u8>| optional(format!("countValue {}", bytes(s)), straight_scan::header(s).map(|n| vec![n as u64]));
+    let count = |sheet: &Vec<u8>| of_text("countValue", sheet, straight_scan::header(sheet).map(|n| vec![n as u64]));
     let names = sheets.iter().flat_map(|s| [4, 5, 7].map(|tag| name_value(s, tag)));
     output.module();
     output.values("columnNumber", &columns(random));

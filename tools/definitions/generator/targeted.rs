@@ -124,7 +124,8 @@ fn radii() -> Vec<Sequence> {
     sequences
 }
 
-/// Octants exactly inside a region, and just not: at several depths, and with the farthest and the closest colour at exactly r.
+/// Octants exactly inside a region, and just not: at several depths, and with the farthest and the closest colour at
+/// exactly r.
 fn inside() -> Vec<Sequence> {
     let mut sequences = Vec::new();
     for depth in [1, 2, 8, 15] {

@@ -11,16 +11,18 @@ pub struct Value {
     pub computed: String,
     pub expected: String,
     pub outcome: String,
+    pub described: String,
+}
+
+impl Value {
+    /// Words that say more than the term does.
+    pub fn described(self, described: String) -> Value {
+        Value { described, ..self }
+    }
 }
 
 pub fn value(computed: String, expected: String, outcome: impl ToString) -> Value {
-    Value { computed, expected, outcome: outcome.to_string() }
-}
-
-/// An optional value: none is the empty list.
-pub fn optional(computed: String, found: Option<Vec<u64>>) -> Value {
-    let outcome = if found.is_some() { "some" } else { "none" };
-    value(computed, numbers(&found.unwrap_or_default()), outcome)
+    Value { described: computed.clone(), computed, expected, outcome: outcome.to_string() }
 }
 
 fn codes_value(panel: [u32; 3]) -> Value {
