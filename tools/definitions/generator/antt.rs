@@ -104,7 +104,8 @@ impl Output {
     }
 
     fn count(&mut self, kind: &'static str, outcome: impl ToString) {
-        *self.counts.entry((kind, outcome.to_string())).or_default() += 1;
+        // So padded, numbers stand in their order.
+        *self.counts.entry((kind, format!("{:>2}", outcome.to_string()))).or_default() += 1;
     }
 
     /// A sequence, with all that the straight scan says of each call.
