@@ -26,6 +26,7 @@ const SIDES: [u32; 17] = [
     1,
 ];
 
+// The side at a depth. Every side is had from here.
 pub fn side(depth: u32) -> u32
     requires { ⌜ depth ≤ 16 ⌝ }
     ensures is { λ r. ⌜ r ≡ sideAt depth ⌝ }
@@ -34,6 +35,7 @@ pub fn side(depth: u32) -> u32
     SIDES[depth as usize]
 }
 
+// The root octant: all colours.
 pub fn root() -> Cube
     ensures is { λ r. ⌜ r ≡ rootCube ⌝ }
     ensures within { λ r. ⌜ Within r ⌝ }
@@ -56,6 +58,7 @@ fn child_code(low: u32, k: u32, weight: u32, side: u32) -> u32
     low + k / weight % 2 * side
 }
 
+// Child k of an octant of side over 1.
 pub fn child(c: Cube, k: u32) -> Cube
     requires { ⌜ Within c ⌝ }
     requires { ⌜ c .depth < 16 ⌝ }
