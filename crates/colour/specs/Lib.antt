@@ -6,3 +6,4 @@ pub mod Panel
 pub mod Region
 pub mod Query
 pub mod Question
+pub mod Computes

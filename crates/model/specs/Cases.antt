@@ -156,5 +156,6 @@ cases =
     ∷ []
 
 pub cases-hold : all cases ≡ true
-unfolding computes cases all grey panelGrey bits fresh after numbers adds three ballGives nearestGives channelGives queryNumber blanks reelEnd blackLine whiteLine example orderTags nextWords octantWordsOf alone walklistStart tagLines refusedLine walklistPrints ofBits round
+unfolding computes cases all grey panelGrey bits fresh after numbers adds three orderTags nextWords octantWordsOf alone
+    ballGives nearestGives channelGives queryNumber blanks reelEnd blackLine whiteLine example
 cases-hold = refl

@@ -2,3 +2,4 @@
 pub mod Column
 pub mod Line
 pub mod Sheet
+pub mod Computes

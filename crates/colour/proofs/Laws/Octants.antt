@@ -4,7 +4,8 @@ use Prim.Native.Nat.{ℕ, zero, suc, _+_, _-_, _*_, _/_, _%_, _^_, _≤_, _<_}
 use mathlib.Core.Bool.{true, _&&_}
 use mathlib.Core.Path.{_≡_, refl, sym, ap, ap₂, _∙_}
 use mathlib.Core.Logic.{_↔_}
-use native.Mathlib.Nat.{mul-add, add-mul, two-pow-succ, div-add-mod', mul-mod-left, mul-le-mul-right, zero-add, div-eq-of-lt-le, div-mul-le-self, lt-div-mul-add, le-div-iff-mul-le, div-lt-iff-lt-mul}
+use native.Mathlib.Nat.{mul-add, add-mul, two-pow-succ, mul-mod-left, mul-le-mul-right, zero-add}
+use native.Mathlib.Nat.{div-add-mod', div-eq-of-lt-le, div-mul-le-self, lt-div-mul-add, le-div-iff-mul-le, div-lt-iff-lt-mul}
 use native.Mathlib.Omega.{arith}
 use lib.Dec.{leb·zero, leb·suc-suc}
 use lib.Pow.{pow-pos}

@@ -19,7 +19,8 @@ use Rattle.sheet.proofs.Ranges.{Ranged, AllRanged, SheetRanged, sheet-ranged}
 use Rattle.model.specs.Lists.{keep}
 use Rattle.model.specs.SampleSet.{Settings, placedFrom, placed, octants}
 use Rattle.model.specs.Layout.{current, sampleHeader, octantHeader, sampleRows, octantRows}
-use Rattle.model.specs.Machine.{Machine, Call, Clear, Load, Add, Remove, Ask, withSet, withSamples, emptySet, startOn, added, removed, hasTag, clearQuestions, fitQuestions, roomQuestions, addQuestions, removeQuestions, unlessRefused, loadLines, load, step}
+use Rattle.model.specs.Machine.{Machine, Call, Clear, Load, Add, Remove, Ask, withSet, withSamples, emptySet, startOn, added, removed, hasTag}
+use Rattle.model.specs.Machine.{clearQuestions, fitQuestions, roomQuestions, addQuestions, removeQuestions, unlessRefused, loadLines, load, step}
 use Rattle.model.specs.Sound.{Valid, distinct, codesInRange}
 use Rattle.model.proofs.Lists.{keep-length}
 use Rattle.model.proofs.Tree.Octants.{no-octants, fewer-octants, keep-fewer}

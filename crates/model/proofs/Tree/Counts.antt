@@ -46,7 +46,8 @@ visit-most R b zero low xs = enter-leaf R (2 ^ zero) low xs
 visit-most R b (suc j) low xs = go (splits b (suc j) xs) refl (λ k. visit-most R b j (childLow (2 ^ j) k low) (part j k xs))
   where
     go : (r : Bool) → splits b (suc j) xs ≡ r
-        → ((k : ℕ) → (visit R b j (childLow (2 ^ j) k low) (part j k xs) .entered ≤ octantsOf b j (part j k xs)) × (visit R b j (childLow (2 ^ j) k low) (part j k xs) .measured ≤ length (part j k xs)))
+        → ((k : ℕ) → (visit R b j (childLow (2 ^ j) k low) (part j k xs) .entered ≤ octantsOf b j (part j k xs))
+        × (visit R b j (childLow (2 ^ j) k low) (part j k xs) .measured ≤ length (part j k xs)))
         → (visit R b (suc j) low xs .entered ≤ octantsOf b (suc j) xs) × (visit R b (suc j) low xs .measured ≤ length xs)
     go true e ih =
         let f : ℕ → Counts = λ k. visit R b j (childLow (2 ^ j) k low) (part j k xs) in

@@ -33,7 +33,15 @@ returns : tie.Need-returns
 unfolding childCube childLow colourBy codeIn bitWeight
 returns c =
     let s = c .before .before .before .before .before .before in
-    is-within (rw (c .before .before .child-code .ensures, c .before .child-code2 .ensures, c .child-code3 .ensures, c .before .before .before .side .ensures .0, add-one (s .args .c .depth))) (child-within _ _ (s .pre .0) (s .pre .1))
+    is-within
+    (rw (
+      c .before .before .child-code .ensures,
+      c .before .child-code2 .ensures,
+      c .child-code3 .ensures,
+      c .before .before .before .side .ensures .0,
+      add-one (s .args .c .depth),
+    ))
+    (child-within _ _ (s .pre .0) (s .pre .1))
 
 pub child-spec : {M : Type 1} → statement M
 child-spec =

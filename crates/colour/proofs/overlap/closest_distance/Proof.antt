@@ -29,7 +29,13 @@ squares-requires c κs = search needs
 returns : tie.Need-returns
 unfolding distance sumOf closest colourBy codeIn
 returns c = (
-  rw (c .squares .ensures .0, c .before .closest-gap3 .ensures .0, c .before .before .closest-gap2 .ensures .0, c .before .before .before .closest-gap .ensures .0, c .before .before .before .before .side .ensures .0),
+  rw (
+    c .squares .ensures .0,
+    c .before .closest-gap3 .ensures .0,
+    c .before .before .closest-gap2 .ensures .0,
+    c .before .before .before .closest-gap .ensures .0,
+    c .before .before .before .before .side .ensures .0,
+  ),
   c .squares .ensures .1,
 )
 

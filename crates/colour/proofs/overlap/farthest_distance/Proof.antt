@@ -29,7 +29,13 @@ squares-requires c κs = search needs
 returns : tie.Need-returns
 unfolding distance sumOf farthest colourBy codeIn
 returns c = (
-  rw (c .squares .ensures .0, c .before .farthest-gap3 .ensures .0, c .before .before .farthest-gap2 .ensures .0, c .before .before .before .farthest-gap .ensures .0, c .before .before .before .before .side .ensures .0),
+  rw (
+    c .squares .ensures .0,
+    c .before .farthest-gap3 .ensures .0,
+    c .before .before .farthest-gap2 .ensures .0,
+    c .before .before .before .farthest-gap .ensures .0,
+    c .before .before .before .before .side .ensures .0,
+  ),
   c .squares .ensures .1,
 )
 
