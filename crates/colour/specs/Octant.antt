@@ -53,6 +53,7 @@ pub data Octant : ℕ → Colour → Type 0 where
 unfoldable pub childCube : Cube → ℕ → Cube
 childCube c k = record { low = childLow (sideAt (suc (c .depth))) k (c .low); depth = suc (c .depth) }
 
+-- The root: all colours, depth 0.
 unfoldable pub rootCube : Cube
 rootCube = record { low = black; depth = 0 }
 

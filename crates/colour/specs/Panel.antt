@@ -27,17 +27,19 @@ codeOf nan = 0
 codeOf (inf s) = 0
 codeOf (fin s m e) = 65536 * (m * up e) / down e
 
--- Channels need 0 ≤ v < 1, a radius 0 ≤ v < 2.
+-- A channel needs 0 ≤ v < 1.
 unfoldable pub channelGood : Float → Bool
 channelGood v = below 1 v
 
+-- A radius needs 0 ≤ v < 2.
 unfoldable pub radiusGood : Float → Bool
 radiusGood v = below 2 v
 
--- A panel colour's channels, and its codes.
+-- A panel colour whose three channels are so.
 unfoldable pub panelGood : PanelColour → Bool
 panelGood p = channelGood (p .red) && channelGood (p .green) && channelGood (p .blue)
 
+-- A panel colour in codes.
 unfoldable pub codesOf : PanelColour → Colour
 codesOf p = record { red = codeOf (p .red); green = codeOf (p .green); blue = codeOf (p .blue) }
 
@@ -45,6 +47,7 @@ codesOf p = record { red = codeOf (p .red); green = codeOf (p .green); blue = co
 unfoldable pub shown : ℕ → Float
 shown code = round binary32 false code 65536
 
+-- A colour as it is shown.
 unfoldable pub shownColour : Colour → PanelColour
 shownColour c = record { red = shown (c .red); green = shown (c .green); blue = shown (c .blue) }
 
@@ -53,11 +56,12 @@ unfoldable pub answerIf : Bool → Float → Code
 answerIf true v = C.Is (codeOf v)
 answerIf false v = C.Refused
 
--- The codes of a panel colour, and a colour as floats, as enums.
+-- The codes of a panel colour, as an enum.
 unfoldable pub codesIf : Bool → PanelColour → Codes
 codesIf true p = Cs.Are (codesOf p)
 codesIf false p = Cs.Refused
 
+-- A colour as floats, as an enum.
 unfoldable pub floatsIf : Bool → Colour → Floats
 floatsIf true c = Fs.Are (shownColour c)
 floatsIf false c = Fs.Refused
@@ -67,6 +71,7 @@ pub record CodesAnswer : Type 0 where
   pub number : ℕ
   pub codes : Colour
 
+-- Question 9: the channels as above? Then the codes.
 unfoldable pub floatsToCodes : PanelColour → CodesAnswer
 floatsToCodes p = elim (panelGood p) [ true ↦ record { number = 0; codes = codesOf p } | false ↦ record { number = 9; codes = black } ]
 
@@ -80,9 +85,11 @@ pub record FloatsAnswer : Type 0 where
   pub number : ℕ
   pub floats : PanelColour
 
+-- Question 4: codes up to 65,535? Then the floats.
 unfoldable pub codesToFloats : Colour → FloatsAnswer
 codesToFloats c = elim (codesFit c) [ true ↦ record { number = 0; floats = shownColour c } | false ↦ record { number = 4; floats = shownColour black } ]
 
+-- The paper's number and values for each case of the enum that answers it.
 unfoldable pub floatsAnswer : Floats → FloatsAnswer
 floatsAnswer (Fs.Are p) = record { number = 0; floats = p }
 floatsAnswer Fs.Refused = record { number = 4; floats = shownColour black }

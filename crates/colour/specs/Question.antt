@@ -8,6 +8,7 @@ pub record Question : Type 0 where
   pub number : ℕ
   pub yes : Bool
 
+-- The question of number n, answered by a test.
 abbrev pub asks : ℕ → Bool → Question
 asks n y = record { number = n; yes = y }
 

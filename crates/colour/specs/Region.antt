@@ -8,17 +8,19 @@ use Rattle.colour.specs.declared.Region.the-variants.{Ball, Box}
 use Rattle.colour.specs.Colour.{codeIn, colourBy, each, apart, distance, InRange}
 use Rattle.colour.specs.Octant.{lastCode}
 
--- The code from low to high that is closest to x, and the one that is farthest.
+-- The code from low to high that is closest to x.
 unfoldable pub closestCode : ℕ → ℕ → ℕ → ℕ
 closestCode low high x = elim (leb x low) [ true ↦ low | false ↦ elim (leb high x) [ true ↦ high | false ↦ x ] ]
 
+-- The code from low to high that is farthest from x.
 unfoldable pub farthestCode : ℕ → ℕ → ℕ → ℕ
 farthestCode low high x = elim (leb (apart x low) (apart x high)) [ true ↦ high | false ↦ low ]
 
--- An octant's closest colour to c, and its farthest.
+-- An octant's closest colour to c.
 unfoldable pub closest : Colour → ℕ → Colour → Colour
 closest c s low = colourBy (λ h. closestCode (codeIn h low) (lastCode s (codeIn h low)) (codeIn h c))
 
+-- An octant's farthest colour from c.
 unfoldable pub farthest : Colour → ℕ → Colour → Colour
 farthest c s low = colourBy (λ h. farthestCode (codeIn h low) (lastCode s (codeIn h low)) (codeIn h c))
 

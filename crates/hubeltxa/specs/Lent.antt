@@ -5,6 +5,7 @@ use Rattle.colour.specs.declared.Colour.{Colour}
 use Rattle.colour.specs.declared.PanelColour.{PanelColour}
 use Rattle.colour.specs.Panel.{CodesAnswer, FloatsAnswer}
 
+-- A colour from three numbers, and a panel colour from three floats.
 abbrev pub colourOf : ℕ → ℕ → ℕ → Colour
 colourOf r g b = record { red = r; green = g; blue = b }
 

@@ -19,6 +19,7 @@ use Rattle.model.specs.Machine.{Machine, Call, Add, Remove, Ask, Answer,
 use Rattle.model.specs.Walklist.{walklistStart, tagLines, refusedLine, walklistPrints}
 use Rattle.model.specs.Computes.{computes}
 
+-- Every test of a list passes.
 unfoldable pub all : List Bool → Bool
 all [] = true
 all (x ∷ xs) = x && all xs
@@ -37,10 +38,12 @@ bits w = ofBits binary32 w
 unfoldable pub fresh : ℕ → ℕ → Machine
 fresh b words = startOn (record { bucket = b }) 82 words
 
+-- The machine after some calls.
 unfoldable pub after : Machine → List Call → Machine
 after m [] = m
 after m (c ∷ rest) = after (step m c .next) rest
 
+-- The numbers that calls give.
 unfoldable pub numbers : Machine → List Call → List ℕ
 numbers m [] = []
 numbers m (c ∷ rest) = step m c .answer .number ∷ numbers (step m c .next) rest
@@ -49,6 +52,7 @@ numbers m (c ∷ rest) = step m c .answer .number ∷ numbers (step m c .next) r
 unfoldable pub adds : List Call
 adds = Add (grey 7 0) ∷ Add (grey 8 65535) ∷ Add (grey 9 0) ∷ []
 
+-- b = 2, with the three samples.
 unfoldable pub three : Machine
 three = after (fresh 2 199) adds
 
@@ -62,6 +66,7 @@ nextWords m = let words : List ℕ = tablesOf current m .samples in getD words 6
 unfoldable pub octantWordsOf : Machine → List ℕ
 octantWordsOf m = tablesOf current m .octants
 
+-- Alone in a set: (3, 4, 0).
 unfoldable pub alone : Machine
 alone = after (fresh 2 199) (Add (record { tag = 1; colour = record { red = 3; green = 4; blue = 0 } }) ∷ [])
 
@@ -87,6 +92,7 @@ channelGives w number code =
     let a : CodesAnswer = floatsToCodes (panelGrey (bits w)) in
     eqb (a .number) number && same (a .codes .red ∷ a .codes .green ∷ a .codes .blue ∷ []) (code ∷ code ∷ code ∷ [])
 
+-- The number of a ball with a channel and a radius by their bits.
 unfoldable pub queryNumber : ℕ → ℕ → ℕ
 queryNumber channel radius = step three (Ask (Ball (panelGrey (bits channel)) (bits radius)) (replicate 8 1)) .answer .number
 
@@ -109,6 +115,7 @@ unfoldable pub example : List ℕ
 example =
     (83 ∷ 87 ∷ 65 ∷ 84 ∷ 67 ∷ 72 ∷ 69 ∷ 83 ∷ 32 ∷ 32 ∷ 32 ∷ 32 ∷ 32 ∷ 51 ∷ 10 ∷ blackLine 55) ++ whiteLine 56 ++ blackLine 57
 
+-- The table.
 unfoldable pub cases : List Bool
 cases =
     -- a. Order 7, 9, 8; next words 2, 3, 1; octant count 3.
@@ -155,6 +162,7 @@ cases =
     ∷ same (lineBytes (grey 8 65535) (65 ∷ 48 ∷ 48 ∷ 49 ∷ [])) (whiteLine 56)
     ∷ []
 
+-- The theorem.
 pub cases-hold : all cases ≡ true
 unfolding computes cases all grey panelGrey bits fresh after numbers adds three orderTags nextWords octantWordsOf alone
     ballGives nearestGives channelGives queryNumber blanks reelEnd blackLine whiteLine example

@@ -21,29 +21,33 @@ pub data OctantField : Type 0 where
   Count : OctantField
   Child : ℕ → OctantField
 
+-- Which word stands where: in the header of the sample table, in a sample row, in an octant row.
 pub record Layout : Type 0 where
   pub settings : List Setting
   pub sample : List SampleField
   pub octant : List OctantField
 
--- The words before the first row: the count and the settings; the octant count.
+-- The words before the first sample row: the count and the settings.
 unfoldable pub sampleHeader : Layout → ℕ
 sampleHeader L = suc (length (L .settings))
 
+-- Before the first octant row: the octant count.
 unfoldable pub octantHeader : Layout → ℕ
 octantHeader L = 1
 
--- The words of a row.
+-- The words of a sample row.
 unfoldable pub sampleWidth : Layout → ℕ
 sampleWidth L = length (L .sample)
 
+-- The words of an octant row.
 unfoldable pub octantWidth : Layout → ℕ
 octantWidth L = length (L .octant)
 
--- The rows that a table of len words has.
+-- The rows that a table of len words has: (length − 2) / 5 rounded down, in the layout in use, 4,096 at most.
 unfoldable pub sampleRows : Layout → ℕ → ℕ
 sampleRows L len = min 4096 ((len - sampleHeader L) / sampleWidth L)
 
+-- (length − 1) / 11 rounded down, in the layout in use.
 unfoldable pub octantRows : Layout → ℕ → ℕ
 octantRows L len = (len - octantHeader L) / octantWidth L
 

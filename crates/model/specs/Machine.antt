@@ -52,15 +52,17 @@ pub record Answer : Type 0 where
   pub distance : ℕ
   pub listing : List ℕ
 
--- The answers of each kind of call: a number alone, a load, a ball or a box, a nearest query. `lent` is a listing as it is left.
+-- The answer of a load: how many lines were taken. In the others below, `lent` is a listing as it is left.
 unfoldable pub loadAnswer : ℕ → ℕ → Answer
 loadAnswer n taken =
     record { number = n; taken = taken; listed = 0; entered = 0; measured = 0; found = false; tag = 0; distance = 0; listing = [] }
 
+-- Of a ball or a box: listed, entered and measured.
 unfoldable pub listAnswer : ℕ → ℕ → Counts → List ℕ → Answer
 listAnswer n k c lent =
     record { number = n; taken = 0; listed = k; entered = c .entered; measured = c .measured; found = false; tag = 0; distance = 0; listing = lent }
 
+-- Of a nearest query: found or none, the tag and d².
 unfoldable pub nearestAnswer : ℕ → Bool → ℕ → ℕ → List ℕ → Answer
 nearestAnswer n found tag distance lent =
     record { number = n; taken = 0; listed = 0; entered = 0; measured = 0; found = found; tag = tag; distance = distance; listing = lent }
@@ -69,14 +71,16 @@ nearestAnswer n found tag distance lent =
 unfoldable pub plain : ℕ → List ℕ → Answer
 plain n lent = nearestAnswer n false 0 0 lent
 
+-- What a call comes to: its answer, and the machine after it.
 pub record Outcome : Type 0 where
   pub answer : Answer
   pub next : Machine
 
--- A machine with another set, and with other samples; the lengths stay the same throughout.
+-- A machine with another set; the lengths stay the same throughout.
 unfoldable pub withSet : Machine → SampleSet → Machine
 withSet m set = record { set = set; sampleLength = m .sampleLength; octantLength = m .octantLength }
 
+-- A machine with other samples and the same settings.
 unfoldable pub withSamples : Machine → List Sample → Machine
 withSamples m xs = withSet m (record { settings = m .set .settings; samples = xs })
 
@@ -92,6 +96,7 @@ added m s = withSamples m (m .set .samples ++ (s ∷ []))
 unfoldable pub removed : Machine → ℕ → Machine
 removed m t = withSamples m (keep (λ s. not (eqb (s .tag) t)) (m .set .samples))
 
+-- Whether a tag is in the bin.
 unfoldable pub hasTag : ℕ → List Sample → Bool
 hasTag t [] = false
 hasTag t (s ∷ rest) = elim (eqb (s .tag) t) [ true ↦ true | false ↦ hasTag t rest ]
@@ -171,5 +176,6 @@ step m (Ask q lent) = record { answer = askedAnswer (m .set) (askedOf q) lent; n
 unfoldable pub startOn : Settings → ℕ → ℕ → Machine
 startOn b sampleLength octantLength = record { set = emptySet b; sampleLength = sampleLength; octantLength = octantLength }
 
+-- It takes the two lengths from that clear, and nothing else of the tables.
 unfoldable pub start : Settings → Tables → Machine
 start b t = startOn b (length (t .samples)) (length (t .octants))

@@ -13,6 +13,7 @@ use Rattle.colour.specs.Region.{holds, overlaps, inside}
 use Rattle.model.specs.Lists.{keep, total}
 use Rattle.model.specs.SampleSet.{SampleSet, Placed, placed, part, splits, order}
 
+-- A sample's tag.
 abbrev pub tagOf : Placed → ℕ
 tagOf x = x .sample .tag
 
@@ -25,6 +26,7 @@ pub record Counts : Type 0 where
   pub entered : ℕ
   pub measured : ℕ
 
+-- Nothing entered, nothing measured.
 unfoldable pub noCounts : Counts
 noCounts = record { entered = 0; measured = 0 }
 
@@ -61,14 +63,16 @@ visit R b (suc j) low xs =
     ] in
     enter R (2 ^ suc j) low xs below
 
+-- What a ball or a box enters and measures, from the root down.
 unfoldable pub counts : Region → SampleSet → Counts
 counts R set = visit R (set .settings .bucket) depths black (placed set)
 
--- The sample of the least d² below the limit, the earliest in the order among equals: one that comes later must be closer.
+-- A later sample, if one was found, and else x.
 unfoldable pub orElse : Option Placed → Placed → Placed
 orElse none x = x
 orElse (some y) x = y
 
+-- Of a list in order: the first is found if it is below the limit and no later one is closer.
 unfoldable pub nearestIn : Colour → ℕ → List Placed → Option Placed
 nearestIn c limit [] = none
 nearestIn c limit (x ∷ rest) =
@@ -77,5 +81,6 @@ nearestIn c limit (x ∷ rest) =
       | false ↦ nearestIn c limit rest
     ]
 
+-- Near: the least d² < r² in the order.
 unfoldable pub nearest : Colour → ℕ → SampleSet → Option Placed
 nearest c r set = nearestIn c (r * r) (order set)

@@ -23,10 +23,12 @@ pub record Placed : Type 0 where
   pub row : ℕ
   pub sample : Sample
 
+-- Samples by arrival, placed from row i on.
 unfoldable pub placedFrom : ℕ → List Sample → List Placed
 placedFrom i [] = []
 placedFrom i (s ∷ rest) = record { row = i; sample = s } ∷ placedFrom (suc i) rest
 
+-- A set's samples with their rows.
 unfoldable pub placed : SampleSet → List Placed
 placed set = placedFrom 0 (set .samples)
 
@@ -50,9 +52,10 @@ octantsOf b zero xs = min 1 (length xs)
 octantsOf b (suc j) xs =
     elim (splits b (suc j) xs) [ true ↦ suc (total (λ k. octantsOf b j (part j k xs)) children) | false ↦ min 1 (length xs) ]
 
--- The order of the set, and its octant count.
+-- The order of the set.
 unfoldable pub order : SampleSet → List Placed
 order set = orderOf (set .settings .bucket) depths (placed set)
 
+-- The octant count of the set.
 unfoldable pub octants : SampleSet → ℕ
 octants set = octantsOf (set .settings .bucket) depths (placed set)

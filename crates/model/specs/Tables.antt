@@ -10,11 +10,12 @@ use Rattle.model.specs.Lists.{joined, total, padded}
 use Rattle.model.specs.SampleSet.{Settings, SampleSet, Placed, placed, part, splits, orderOf, octantsOf, order, octants}
 use Rattle.model.specs.Layout.{Setting, Bucket, SampleField, Tag, Code, Next, OctantField, First, Last, Count, Child, Layout}
 
--- The row of the first, and of the last; d where there is none.
+-- The row of the first; d where there is none.
 unfoldable pub firstRow : ℕ → List Placed → ℕ
 firstRow d [] = d
 firstRow d (x ∷ rest) = x .row
 
+-- The row of the last; d where there is none.
 unfoldable pub lastRow : ℕ → List Placed → ℕ
 lastRow d [] = d
 lastRow d (x ∷ rest) = lastRow (x .row) rest
@@ -24,19 +25,22 @@ unfoldable pub nextRow : ℕ → ℕ → List Placed → ℕ
 nextRow n i [] = n
 nextRow n i (x ∷ rest) = elim (eqb (x .row) i) [ true ↦ firstRow n rest | false ↦ nextRow n i rest ]
 
--- The sample table: the count, the settings, and a row for each sample by arrival.
+-- A word of the settings in the sample table's header.
 unfoldable pub settingWord : Settings → Setting → ℕ
 settingWord s Bucket = s .bucket
 
+-- A word of the row of sample x, of n in that order.
 unfoldable pub sampleWord : ℕ → List Placed → Placed → SampleField → ℕ
 sampleWord n ordered x Tag = x .sample .tag
 sampleWord n ordered x (Code h) = codeIn h (x .sample .colour)
 sampleWord n ordered x Next = nextRow n (x .row) ordered
 
+-- The rows of samples, one after the other.
 unfoldable pub sampleRowsOf : Layout → ℕ → List Placed → List Placed → List ℕ
 sampleRowsOf L n ordered [] = []
 sampleRowsOf L n ordered (x ∷ rest) = map (sampleWord n ordered x) (L .sample) ++ sampleRowsOf L n ordered rest
 
+-- The sample table's words: the count, the settings, and a row for each sample by arrival.
 unfoldable pub sampleWords : Layout → SampleSet → List ℕ
 sampleWords L set =
     length (set .samples)
@@ -53,6 +57,7 @@ unfoldable pub rowOrNone : ℕ → List Placed → ℕ
 rowOrNone row [] = 0
 rowOrNone row (x ∷ xs) = row
 
+-- The child word k of the octant number `at`, of side 2 ^ j, that holds xs.
 unfoldable pub childWord : ℕ → ℕ → ℕ → List Placed → ℕ → ℕ
 childWord b zero at xs k = 0
 childWord b (suc j) at xs k = elim (splits b (suc j) xs) [ true ↦ rowOrNone (childRow b j at xs k) (part j k xs) | false ↦ 0 ]
@@ -78,6 +83,7 @@ octantRowsOf L b (suc j) at xs =
       | false ↦ octantRow L b (suc j) at xs
     ]
 
+-- The octant table's words: the octant count, and the rows from the root on.
 unfoldable pub octantWords : Layout → SampleSet → List ℕ
 octantWords L set = octants set ∷ octantRowsOf L (set .settings .bucket) depths 0 (placed set)
 
@@ -86,6 +92,7 @@ pub record Tables : Type 0 where
   pub samples : List ℕ
   pub octants : List ℕ
 
+-- Two tables from their words.
 abbrev pub pair : List ℕ → List ℕ → Tables
 pair s o = record { samples = s; octants = o }
 

@@ -16,6 +16,7 @@ pub record Event : Type 0 where
   pub answer : Answer
   pub after : Tables
 
+-- An event's call.
 abbrev pub callOf : Event → Call
 callOf e = e .call
 

@@ -6,6 +6,7 @@ use mathlib.Core.Option.{Option, none, some}
 use lib.Dec.{leb, ltb, eqb}
 use lib.ListN.{length, replicate}
 
+-- A blank is byte 32, a newline byte 10.
 unfoldable pub blank : ℕ
 blank = 32
 

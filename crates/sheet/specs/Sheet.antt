@@ -12,12 +12,14 @@ use Rattle.sheet.specs.Line.{Line, lineOf, lineLength, nameStart}
 unfoldable pub title : List ℕ
 title = 83 ∷ 87 ∷ 65 ∷ 84 ∷ 67 ∷ 72 ∷ 69 ∷ 83 ∷ []
 
+-- Whether two texts are the same.
 unfoldable pub sameBytes : List ℕ → List ℕ → Bool
 sameBytes [] [] = true
 sameBytes [] (y ∷ ys) = false
 sameBytes (x ∷ xs) [] = false
 sameBytes (x ∷ xs) (y ∷ ys) = eqb x y && sameBytes xs ys
 
+-- The columns of the line count.
 unfoldable pub countColumns : ℕ
 countColumns = 6
 
@@ -35,6 +37,7 @@ countIf false n s = none
 countIf true none s = none
 countIf true (some n) s = elim (eqb (length s) (lineStart n)) [ true ↦ some n | false ↦ none ]
 
+-- The header: title, count, newline.
 unfoldable pub lineCount : List ℕ → Option ℕ
 lineCount s =
     countIf (sameBytes (take (length title) s) title && eqb (getD s (length title + countColumns) 0) newline)
@@ -54,6 +57,7 @@ unfoldable pub linesBy : Option ℕ → List ℕ → Option (List (Option Line))
 linesBy none s = none
 linesBy (some n) s = some (linesFrom s 0 n)
 
+-- A sheet's lines.
 unfoldable pub linesOf : List ℕ → Option (List (Option Line))
 linesOf s = linesBy (lineCount s) s
 
@@ -62,9 +66,11 @@ pub record Part : Type 0 where
   pub start : ℕ
   pub size : ℕ
 
+-- The empty part.
 unfoldable pub emptyPart : Part
 emptyPart = record { start = 0; size = 0 }
 
+-- The bytes of a part.
 unfoldable pub bytesOf : Part → List ℕ → List ℕ
 bytesOf p s = take (p .size) (drop (p .start) s)
 
@@ -89,5 +95,6 @@ unfoldable pub namePartOf : ℕ → Option (List (Option Line)) → Part
 namePartOf tag none = emptyPart
 namePartOf tag (some lines) = elim (allGood lines) [ true ↦ namePartFrom tag 0 lines | false ↦ emptyPart ]
 
+-- The part of a sheet that holds the name for a tag.
 unfoldable pub namePart : List ℕ → ℕ → Part
 namePart s tag = namePartOf tag (linesOf s)
