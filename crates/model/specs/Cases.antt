@@ -5,7 +5,7 @@ use mathlib.Core.Path.{_≡_, refl}
 use mathlib.Core.List.{List, [], _∷_, _++_, map}
 use lib.Dec.{eqb}
 use lib.ListN.{length, take, drop, getD, replicate}
-use lib.Ieee.{Float, binary32, ofBits, round}
+use lib.Ieee.{Float, binary32, ofBits}
 use Rattle.colour.specs.declared.PanelColour.{PanelColour}
 use Rattle.colour.specs.declared.Sample.{Sample}
 use Rattle.colour.specs.declared.Query.the-variants.{Ball, Nearest}
@@ -16,7 +16,7 @@ use Rattle.model.specs.SampleSet.{order, octants}
 use Rattle.model.specs.Layout.{current}
 use Rattle.model.specs.Queries.{tagOf}
 use Rattle.model.specs.Machine.{Machine, Call, Add, Remove, Ask, Answer, tablesOf, startOn, step}
-use Rattle.model.specs.Walklist.{walklistStart, tagLines, refusedLine, walklistPrints}
+use Rattle.model.specs.Walklist.{walklistPrints}
 use Rattle.model.specs.Computes.{computes}
 
 -- Every test of a list passes.

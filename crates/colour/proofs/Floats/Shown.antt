@@ -25,7 +25,7 @@ by-value (fin t m e) n v =
     ∙ round-same binary32 false (m * up e * 1) (65536 * down e) n 65536 (mul-pos (lit< {m = 0} {n = 65536} tt) (down-pos e)) (lit< tt)
     (ap (λ (z : ℕ). z * 65536) (v .1) ∙ mul-assoc n (down e) 65536 ∙ ap (λ (z : ℕ). n * z) (mul-comm (down e) 65536))
 
--- The division that the code does; 1199570944 is 65536.0 in bits.
+-- The division that `show` does; 1199570944 is 65536.0 in bits.
 pub divided : (n : ℕ) → n < 65536 → div binary32 (ofInt binary32 (pos n)) (ofBits binary32 1199570944) ≡ shown n
 unfolding shown ofInt ofBits
 divided n h = by-value (round binary32 false n 1) n (round-whole binary32 false n (omega arith))

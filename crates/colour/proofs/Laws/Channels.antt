@@ -81,7 +81,7 @@ pub fit-codes : (c : Colour) → (codesFit c ≡ true) ↔ ((h : Channel) → co
 unfolding codesFit isCode
 fit-codes c = (λ e h. leb-true _ _ (each-every _ .0 e h), λ e. each-every _ .1 (λ h. le-leb _ _ (e h)))
 
--- What the questions ask of a colour and what the code requires are the same.
+-- What the questions ask of a colour and what the functions require are the same.
 pub in-range : (c : Colour) → codesFit c ≡ true → InRange c
 unfolding codeIn
 in-range c e = let code = fit-codes c .0 e in record { red = code Red; green = code Green; blue = code Blue }

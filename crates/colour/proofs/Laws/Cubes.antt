@@ -1,4 +1,4 @@
--- The cubes that stand for octants in the code (document 01, "Colours and octants"): their sides, and that the root and the children are octants.
+-- The cubes that stand for octants in the functions (document 01, "Colours and octants"): their sides, and that the root and the children are octants.
 use Prim.Native.Nat.{ℕ, suc, _+_, _-_, _/_, _^_, _≤_, _<_}
 use mathlib.Core.Path.{_≡_, refl, ap, _∙_, subst⁻¹}
 use native.Mathlib.Nat.{two-pow-succ, pow-le-pow-right}
@@ -43,7 +43,7 @@ is-side d e = (e, rw e (side-pos d, side-most d))
 pub room : (c : Cube) (s : ℕ) → Within c → s ≡ sideAt (c .depth) → (h : Channel) → (1 ≤ s) × (codeIn h (c .low) + s ≤ 65536)
 room c s w e h = rw e (side-pos _, w .low h)
 
--- Two children stand side by side within their parent; the code has the child's depth as d + 1.
+-- Two children stand side by side within their parent; `child` has the child's depth as d + 1.
 pub child-room : (c : Cube) (s : ℕ) → Within c → c .depth < 16 → s ≡ sideAt (c .depth + 1) → (h : Channel) → codeIn h (c .low) + (s + s) ≤ 65536
 unfolding depths
 child-room c s w d e h = omega (arith, e ∙ ap sideAt (add-one (c .depth)), w .low h, side-half (c .depth) d)
@@ -64,7 +64,7 @@ root-within = record { depth = omega arith; low = λ h. rw (code-by (λ g. 0) h)
 pub is-within : {c d : Cube} → d ≡ c → Within c → (d ≡ c) × Within d
 is-within e w = (e, subst⁻¹ Within e w)
 
--- A cube of the code that is an octant.
+-- A cube that is an octant.
 pub record IsOctant (c : Cube) : Type 0 where
   pub depth : c .depth ≤ depths
   pub octant : Octant (depths - c .depth) (c .low)
@@ -81,7 +81,7 @@ child-cube c k o h b = record { depth = h; octant = child k b (rw e at (o .octan
     e : 16 - c .depth ≡ suc (16 - suc (c .depth))
     e = omega arith
 
--- Such a cube is what the code asks for.
+-- Such a cube is what the functions ask for.
 pub octant-within : (c : Cube) → IsOctant c → Within c
 unfolding sideAt
 octant-within c o = record { depth = o .depth; low = octant-lies (o .octant) .fits }

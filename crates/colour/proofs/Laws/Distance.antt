@@ -5,14 +5,18 @@ use mathlib.Core.Path.{_≡_, refl, ap}
 use native.Mathlib.Nat.{add-comm, mul-le-mul}
 use native.Mathlib.Omega.{arith}
 use Rattle.colour.specs.declared.Colour.{Colour}
-use Rattle.colour.specs.Colour.{Channel, codeIn, colourBy, sumOf, codesFit, black, apart, distance}
+use Rattle.colour.specs.Colour.{Channel, Red, Green, Blue, codeIn, colourBy, sumOf, codesFit, black, greatestDistance, apart, distance}
 use Rattle.colour.proofs.Laws.Channels.{sum-grows, sum-same, fit-codes}
+
+-- A square grows with its root.
+pub square-most : {x m : ℕ} → x ≤ m → x * x ≤ m * m
+square-most h = mul-le-mul h h
 
 -- d² grows with each of the three code differences.
 pub distance-grows : (a b c d : Colour)
     → ((h : Channel) → apart (codeIn h a) (codeIn h b) ≤ apart (codeIn h c) (codeIn h d)) → distance a b ≤ distance c d
 unfolding distance
-distance-grows a b c d e = sum-grows _ _ (λ h. mul-le-mul (e h) (e h))
+distance-grows a b c d e = sum-grows _ _ (λ h. square-most (e h))
 
 -- d² is symmetric.
 pub distance-symmetric : (a b : Colour) → distance a b ≡ distance b a
@@ -28,22 +32,19 @@ distance-self a = sum-same _ (λ h. 0) (λ h. ap (λ (n : ℕ). n * n) (apart-se
     apart-self : (x : ℕ) → apart x x ≡ 0
     apart-self x = omega arith
 
+-- Three squared code differences sum to the greatest d² at most.
+pub squares-most : {x y z : ℕ} → (x ≤ 65535) × ((y ≤ 65535) × (z ≤ 65535)) → x * x + y * y + z * z ≤ greatestDistance
+squares-most h = omega (arith, square-most (h .0), square-most (h .1 .0), square-most (h .1 .1))
+
 -- "d² reaches 12,884,508,675": it is no more for colours in range.
-pub distance-bound : (a b : Colour) → codesFit a ≡ true → codesFit b ≡ true → distance a b ≤ 12884508675
+pub distance-bound : (a b : Colour) → codesFit a ≡ true → codesFit b ≡ true → distance a b ≤ greatestDistance
 unfolding distance apart sumOf
-distance-bound a b fa fb = sum-grows _ (λ h. 65535 * 65535) (λ h. mul-le-mul (near h) (near h))
+distance-bound a b fa fb = squares-most (gap Red, (gap Green, gap Blue))
   where
-    near : (h : Channel) → apart (codeIn h a) (codeIn h b) ≤ 65535
-    near h = omega (arith, fit-codes a .0 fa h, fit-codes b .0 fb h)
+    gap : (h : Channel) → apart (codeIn h a) (codeIn h b) ≤ 65535
+    gap h = omega (arith, fit-codes a .0 fa h, fit-codes b .0 fb h)
 
 -- It does reach that, from black to white.
-pub distance-reached : distance black (colourBy (λ h. 65535)) ≡ 12884508675
+pub distance-reached : distance black (colourBy (λ h. 65535)) ≡ greatestDistance
 unfolding distance apart sumOf black colourBy codeIn
 distance-reached = refl
-
--- A square grows with its root; the sum of three squared code differences fits in 64 bits.
-pub square-most : {x m : ℕ} → x ≤ m → x * x ≤ m * m
-square-most h = mul-le-mul h h
-
-pub squares-most : {x y z : ℕ} → (x ≤ 65535) × ((y ≤ 65535) × (z ≤ 65535)) → x * x + y * y + z * z ≤ 12884508675
-squares-most h = omega (arith, square-most (h .0), square-most (h .1 .0), square-most (h .1 .1))

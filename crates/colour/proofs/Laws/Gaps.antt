@@ -1,4 +1,4 @@
--- The closest and the farthest code by the tests that the code makes.
+-- The closest and the farthest code, by the tests that `closest_gap` and `farthest_gap` make.
 use Prim.Native.Nat.{ℕ, _≤_, _<_}
 use mathlib.Core.Path.{_≡_, _∙_, ap, sym}
 use mathlib.Core.Bool.{Bool, true, false}

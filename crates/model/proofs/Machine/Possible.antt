@@ -1,4 +1,4 @@
--- The contracts can be met: on sound tables by the machine's own answer, and by a refusal on any others. So the whole-day theorem is not empty.
+-- The contracts can be met: on sound tables by the machine's own answer, on others by a refusal. So the whole-day theorem is not empty.
 use Prim.Native.Nat.{ℕ}
 use mathlib.Core.Bool.{Bool, true, false, true≢false}
 use mathlib.Core.List.{List, []}
@@ -10,7 +10,7 @@ use Rattle.model.specs.SampleSet.{Settings}
 use Rattle.model.specs.Layout.{current}
 use Rattle.model.specs.Tables.{Tables}
 use Rattle.model.specs.Machine.{Machine, Call, Clear, Load, Add, Remove, Ask, tablesOf, plain, listAnswer, nearestAnswer, step, unlessRefused}
-use Rattle.model.specs.Sound.{Shows}
+use Rattle.model.specs.Sound.{Shows, Sound, longEnough}
 use Rattle.model.specs.Meets.{Meets, ClearMeets, TableMeets, Follows, Free, lent, lists, mayGive, ownReports}
 use Rattle.model.proofs.Tables.Unique.{shows-one, current-complete}
 use Rattle.model.proofs.Machine.Day.{sound-long, clear-next, clear-stays, started}
@@ -70,3 +70,44 @@ refusing-is-free q l t =
       refused = λ _. refl;
       reports = nothing-reported q l;
     }
+
+-- On tables that are too short, refusing by 1 meets every contract.
+module _ (t : Tables) (e : longEnough current t ≡ false) where
+  table-short : (unsoundly : Type 0) (c : Call) → TableMeets unsoundly c t (plain 1 (lent c)) t
+  table-short unsoundly c =
+      record {
+        short = λ _. record { answer = refl; tables = refl };
+        unsound = λ l. absurd (true≢false (sym l ∙ e));
+        sound = λ m s. absurd (true≢false (sym (sound-long m t s) ∙ e));
+      }
+
+  pub short-meets : (c : Call) → Meets c t (plain 1 (lent c)) t
+  unfolding Meets
+  short-meets (Clear b) =
+      record {
+        short = λ _. record { answer = refl; tables = refl };
+        refused = λ l. absurd (true≢false (sym l ∙ e));
+        accepted = λ l. absurd (true≢false (sym l ∙ e));
+      }
+  short-meets (Load x) = table-short _ (Load x)
+  short-meets (Add x) = table-short _ (Add x)
+  short-meets (Remove x) = table-short _ (Remove x)
+  short-meets (Ask q l) = table-short _ (Ask q l)
+
+-- On unsound ones, refusing by 2 meets that of every call but clear, which does not ask.
+module _ (t : Tables) (e : longEnough current t ≡ true) (n : Sound current t → ⊥) where
+  table-unsound : (unsoundly : Type 0) (c : Call) → unsoundly → TableMeets unsoundly c t (plain 2 (lent c)) t
+  table-unsound unsoundly c h =
+      record {
+        short = λ l. absurd (true≢false (sym e ∙ l));
+        unsound = λ _ _. h;
+        sound = λ m s. absurd (n (record { machine = m; shows = s }));
+      }
+
+  pub unsound-meets : (c : Call) → ((b : Settings) → c ≡ Clear b → ⊥) → Meets c t (plain 2 (lent c)) t
+  unfolding Meets lent
+  unsound-meets (Clear b) other = absurd (other b refl)
+  unsound-meets (Load x) other = table-unsound _ (Load x) (record { answer = refl; tables = refl })
+  unsound-meets (Add x) other = table-unsound _ (Add x) (record { answer = refl; tables = refl })
+  unsound-meets (Remove x) other = table-unsound _ (Remove x) (record { answer = refl; tables = refl })
+  unsound-meets (Ask q l) other = table-unsound _ (Ask q l) (refusing-is-free q l t)
