@@ -9,3 +9,4 @@ pub mod Keys
 pub mod Distance
 pub mod Gaps
 pub mod Extremes
+pub mod Questions

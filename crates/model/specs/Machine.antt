@@ -14,7 +14,7 @@ use Rattle.colour.specs.declared.panel.Asked.the-variants as A
 use Rattle.colour.specs.Colour.{distance, codesFit}
 use Rattle.colour.specs.Query.{askedOf}
 use Rattle.colour.specs.Question.{Question, asks, firstNo}
-use Rattle.sheet.specs.Line.{Line}
+use Rattle.sheet.specs.declared.line.Line.{Line}
 use Rattle.sheet.specs.Sheet.{linesOf}
 use Rattle.model.specs.Lists.{keep}
 use Rattle.model.specs.SampleSet.{Settings, SampleSet, Placed, octants}

@@ -1,4 +1,2 @@
 -- Laws on the definitions of sheets.
-pub mod Numbers
-pub mod Ranges
-pub mod Written
+pub mod Laws

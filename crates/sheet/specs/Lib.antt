@@ -2,4 +2,5 @@
 pub mod Column
 pub mod Line
 pub mod Sheet
+pub mod Answers
 pub mod Computes

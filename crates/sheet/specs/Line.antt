@@ -9,7 +9,8 @@ use Rattle.colour.specs.declared.Colour.{Colour}
 use Rattle.colour.specs.declared.Sample.{Sample}
 use Rattle.colour.specs.Colour.{isTag, codesFit}
 use Rattle.colour.specs.Question.{asks, firstNo}
-use Rattle.sheet.specs.Column.{blank, newline, trimmed, columnNumber, columnOf}
+use Rattle.sheet.specs.declared.line.Line.{Line}
+use Rattle.sheet.specs.Column.{blank, newline, trimmed, columnNumber, present, columnOf}
 
 -- The columns of a line, and where each starts.
 unfoldable pub tagColumns : ℕ
@@ -60,11 +61,6 @@ nameGood name = leb 1 (length name) && leb (length name) nameColumns && eqb (len
 unfoldable pub nameFieldGood : List ℕ → Bool
 nameFieldGood s = nameGood (leading s) && eqb (length (trimmed (drop (length (leading s)) s))) 0
 
--- What a good line says: its sample, and the length of its name.
-pub record Line : Type 0 where
-  pub sample : Sample
-  pub nameLength : ℕ
-
 -- A line from its numbers, where each column has one and tag and codes are in range.
 unfoldable pub lineFrom : Option ℕ → Option ℕ → Option ℕ → Option ℕ → ℕ → Option Line
 lineFrom none r g b n = none
@@ -73,7 +69,11 @@ lineFrom (some t) (some r) none b n = none
 lineFrom (some t) (some r) (some g) none n = none
 lineFrom (some t) (some r) (some g) (some b) n =
     let c : Colour = record { red = r; green = g; blue = b } in
-    elim (isTag t && codesFit c) [ true ↦ some (record { sample = record { tag = t; colour = c }; nameLength = n }) | false ↦ none ]
+    elim (isTag t && codesFit c) [ true ↦ some (record { sample = record { tag = t; colour = c }; «name_length» = n }) | false ↦ none ]
+
+-- The length of the name in its columns, 0 where these are not good.
+unfoldable pub nameLengthIn : List ℕ → ℕ
+nameLengthIn s = elim (nameFieldGood s) [ true ↦ length (leading s) | false ↦ 0 ]
 
 -- The columns of a line's name.
 unfoldable pub nameField : List ℕ → List ℕ
@@ -87,24 +87,40 @@ lineFormed s =
     && nameFieldGood (nameField s)
     && eqb (getD s newlineAt 0) newline
 
+-- The code in the columns that start at byte `at`.
+unfoldable pub codeColumn : List ℕ → ℕ → Option ℕ
+codeColumn s at = columnNumber (take codeColumns (drop at s))
+
+-- What a line's numbers say, beside a name of n bytes.
+unfoldable pub lineNumbers : List ℕ → ℕ → Option Line
+lineNumbers s n =
+    lineFrom (columnNumber (take tagColumns s)) (codeColumn s redStart) (codeColumn s greenStart) (codeColumn s blueStart) n
+
 -- A line is good when so formed, with tag and codes in range; none where it is not.
 unfoldable pub lineOf : List ℕ → Option Line
-lineOf s =
-    elim (lineFormed s) [
-      | true ↦
-          lineFrom (columnNumber (take tagColumns s)) (columnNumber (take codeColumns (drop redStart s)))
-          (columnNumber (take codeColumns (drop greenStart s))) (columnNumber (take codeColumns (drop blueStart s)))
-          (length (leading (nameField s)))
-      | false ↦ none
-    ]
+lineOf s = elim (lineFormed s) [ true ↦ lineNumbers s (length (leading (nameField s))) | false ↦ none ]
 
--- The line written from a sample and a name.
-unfoldable pub lineBytes : Sample → List ℕ → List ℕ
-lineBytes s name =
+-- What the reading of a line gives back: question 12, and what a good line says.
+pub record LineAnswer : Type 0 where
+  pub number : ℕ
+  pub line : Option Line
+
+-- A line read.
+unfoldable pub readLine : List ℕ → LineAnswer
+readLine s = record { number = firstNo (asks 12 (present (lineOf s)) ∷ []); line = lineOf s }
+
+-- The numbers of a line, written from a sample.
+unfoldable pub numberColumns : Sample → List ℕ
+numberColumns s =
     columnOf tagColumns (s .tag)
     ++ columnOf codeColumns (s .colour .red)
     ++ columnOf codeColumns (s .colour .green)
     ++ columnOf codeColumns (s .colour .blue)
+
+-- The line written from a sample and a name.
+unfoldable pub lineBytes : Sample → List ℕ → List ℕ
+lineBytes s name =
+    numberColumns s
     ++ (blank ∷ name)
     ++ replicate (nameColumns - length name) blank
     ++ (newline ∷ [])

@@ -1,12 +1,18 @@
 -- Whole sheets: the header, the lines, and the name lookup (document 01, "Sheets").
-use Prim.Native.Nat.{ℕ, zero, suc, _+_, _*_}
+use Prim.Native.Nat.{ℕ, zero, suc, _+_, _*_, _≤_}
 use mathlib.Core.Bool.{Bool, true, false, _&&_}
-use mathlib.Core.List.{List, [], _∷_}
+use mathlib.Core.List.{List, [], _∷_, _++_}
 use mathlib.Core.Option.{Option, none, some}
+use mathlib.Core.Path.{_≡_}
+use denote.Ref.{RefT, ptr, now}
 use lib.Dec.{eqb}
 use lib.ListN.{length, take, drop, getD}
-use Rattle.sheet.specs.Column.{newline, columnNumber}
-use Rattle.sheet.specs.Line.{Line, lineOf, lineLength, nameStart}
+use Rattle.colour.specs.declared.Sample.{Sample}
+use Rattle.colour.specs.Question.{asks, firstNo}
+use Rattle.sheet.specs.Column.{newline, columnNumber, present, columnOf}
+use Rattle.sheet.specs.declared.line.Line.{Line}
+use Rattle.sheet.specs.declared.lookup.Part.{Part}
+use Rattle.sheet.specs.Line.{lineOf, lineBytes, lineLength, nameStart}
 
 -- The eight bytes `SWATCHES`.
 unfoldable pub title : List ℕ
@@ -43,6 +49,15 @@ lineCount s =
     countIf (sameBytes (take (length title) s) title && eqb (getD s (length title + countColumns) 0) newline)
     (columnNumber (take countColumns (drop (length title) s))) s
 
+-- What the reading of a header gives back: question 11, and the number of lines.
+pub record HeaderAnswer : Type 0 where
+  pub number : ℕ
+  pub lines : Option ℕ
+
+-- A header read.
+unfoldable pub readHeader : List ℕ → HeaderAnswer
+readHeader s = record { number = firstNo (asks 11 (present (lineCount s)) ∷ []); lines = lineCount s }
+
 -- Line k: the part of the sheet that starts at byte 15 + 62 × k.
 unfoldable pub linePart : List ℕ → ℕ → List ℕ
 linePart s k = take lineLength (drop (lineStart k) s)
@@ -60,11 +75,6 @@ linesBy (some n) s = some (linesFrom s 0 n)
 -- A sheet's lines.
 unfoldable pub linesOf : List ℕ → Option (List (Option Line))
 linesOf s = linesBy (lineCount s) s
-
--- A part of a sheet: where it starts, and how many bytes it has.
-pub record Part : Type 0 where
-  pub start : ℕ
-  pub size : ℕ
 
 -- The empty part.
 unfoldable pub emptyPart : Part
@@ -86,7 +96,7 @@ namePartFrom tag k [] = emptyPart
 namePartFrom tag k (none ∷ rest) = namePartFrom tag (suc k) rest
 namePartFrom tag k (some l ∷ rest) =
     elim (eqb (l .sample .tag) tag) [
-      | true ↦ record { start = lineStart k + nameStart; size = l .nameLength }
+      | true ↦ record { start = lineStart k + nameStart; size = l .«name_length» }
       | false ↦ namePartFrom tag (suc k) rest
     ]
 
@@ -98,3 +108,24 @@ namePartOf tag (some lines) = elim (allGood lines) [ true ↦ namePartFrom tag 0
 -- The part of a sheet that holds the name for a tag.
 unfoldable pub namePart : List ℕ → ℕ → Part
 namePart s tag = namePartOf tag (linesOf s)
+
+-- What is promised of the text that a lookup hands back: it is those bytes, and they are a part of the sheet itself, in its memory and within it.
+pub record NameIn (sheet : RefT (List ℕ)) (tag : ℕ) (r : RefT (List ℕ)) : Type 0 where
+  pub within : namePart (now sheet) tag .start + namePart (now sheet) tag .size ≤ length (now sheet)
+  pub bytes : now r ≡ bytesOf (namePart (now sheet) tag) (now sheet)
+  pub place : ptr r ≡ (ptr sheet .0, ptr sheet .1 + namePart (now sheet) tag .start)
+
+-- A sheet of written lines, each from a sample and a name.
+pub record Entry : Type 0 where
+  pub sample : Sample
+  pub name : List ℕ
+
+unfoldable pub headerBytes : ℕ → List ℕ
+headerBytes n = title ++ columnOf countColumns n ++ (newline ∷ [])
+
+unfoldable pub linesBytes : List Entry → List ℕ
+linesBytes [] = []
+linesBytes (e ∷ rest) = lineBytes (e .sample) (e .name) ++ linesBytes rest
+
+unfoldable pub sheetBytes : List Entry → List ℕ
+sheetBytes entries = headerBytes (length entries) ++ linesBytes entries

@@ -12,10 +12,11 @@ use borrow.Author.Tests.{leb-true, eqb-true, eqb-false, ne-eqb, not-true}
 use Rattle.colour.specs.declared.Sample.{Sample}
 use Rattle.colour.specs.Colour.{codesFit}
 use Rattle.colour.specs.Octant.{depths}
-use Rattle.colour.specs.Question.{Question, asks, firstNo}
-use Rattle.sheet.specs.Line.{Line}
+use Rattle.colour.specs.Question.{firstNo}
+use Rattle.colour.proofs.Laws.Questions.{asked}
+use Rattle.sheet.specs.declared.line.Line.{Line}
 use Rattle.sheet.specs.Sheet.{linesOf}
-use Rattle.sheet.proofs.Ranges.{Ranged, AllRanged, SheetRanged, sheet-ranged}
+use Rattle.sheet.proofs.Laws.Ranges.{Ranged, AllRanged, SheetRanged, sheet-ranged}
 use Rattle.model.specs.Lists.{keep}
 use Rattle.model.specs.SampleSet.{Settings, placedFrom, placed, octants}
 use Rattle.model.specs.Layout.{current, sampleHeader, octantHeader, sampleRows, octantRows}
@@ -82,12 +83,6 @@ snoc-range : (s : Sample) (xs : List Sample) → codesInRange xs → codesFit (s
 unfolding codesInRange
 snoc-range s [] h c = (c, tt)
 snoc-range s (x ∷ xs) h c = (h .0, snoc-range s xs (h .1) c)
-
--- Where the number is 0, each question was answered with yes.
-pub asked : (n : ℕ) (yes : Bool) (rest : List Question) → (n ≡ 0 → ⊥) → firstNo (asks n yes ∷ rest) ≡ 0 → (yes ≡ true) × (firstNo rest ≡ 0)
-unfolding firstNo
-asked n true rest z h = (refl, h)
-asked n false rest z h = absurd (z h)
 
 -- A machine whose samples changed, within the same lengths.
 changed-valid : (m : Machine) (xs : List Sample) → Valid current m → distinct xs → codesInRange xs → length xs ≤ sampleRows current (m .sampleLength)

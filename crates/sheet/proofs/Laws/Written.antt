@@ -8,7 +8,7 @@ use lib.ListN.{length, replicate, length-append, length-replicate}
 use native.Mathlib.Omega.{arith}
 use Rattle.colour.specs.declared.Sample.{Sample}
 use Rattle.sheet.specs.Column.{blank, decimal, columnOf}
-use Rattle.sheet.specs.Line.{tagColumns, codeColumns, nameColumns, redStart, greenStart, blueStart, blankAt, nameStart, newlineAt, lineLength, lineBytes}
+use Rattle.sheet.specs.Line.{tagColumns, codeColumns, nameColumns, redStart, greenStart, blueStart, blankAt, nameStart, newlineAt, lineLength, numberColumns, lineBytes}
 
 decimal-most : (w n : ℕ) → length (decimal w n) ≤ w
 unfolding decimal
@@ -26,7 +26,7 @@ column-length w n =
     ∙ omega (arith, length-replicate (w - length (decimal w n)) blank, decimal-most w n)
 
 pub line-bytes-length : (s : Sample) (name : List ℕ) → length name ≤ nameColumns → length (lineBytes s name) ≡ lineLength
-unfolding lineBytes lineLength newlineAt nameStart blankAt blueStart greenStart redStart
+unfolding numberColumns lineBytes lineLength newlineAt nameStart blankAt blueStart greenStart redStart
 line-bytes-length s name h =
     simp length-append
     (omega (

@@ -5,7 +5,8 @@ use mathlib.Core.List.{List, [], _∷_}
 use mathlib.Core.Option.{Option, none, some}
 use mathlib.Core.Path.{_≡_, refl}
 use Rattle.colour.specs.Colour.{isTag, codesFit}
-use Rattle.sheet.specs.Line.{Line, lineFrom, lineFormed, lineOf}
+use Rattle.sheet.specs.declared.line.Line.{Line}
+use Rattle.sheet.specs.Line.{lineFrom, lineFormed, lineNumbers, lineOf}
 use Rattle.sheet.specs.Sheet.{linePart, linesFrom, linesBy, lineCount, linesOf}
 
 -- What holds of a good line, of every good line of a list, and of a sheet's lines.
@@ -25,27 +26,29 @@ unfoldable pub SheetRanged : Option (List (Option Line)) → Type 0
 SheetRanged none = Unit {0}
 SheetRanged (some lines) = AllRanged lines
 
-from-ranged : (t r g b : Option ℕ) (n : ℕ) → Ranged (lineFrom t r g b n)
-unfolding Ranged lineFrom
-from-ranged none r g b n = tt
-from-ranged (some t) none g b n = tt
-from-ranged (some t) (some r) none b n = tt
-from-ranged (some t) (some r) (some g) none n = tt
-from-ranged (some t) (some r) (some g) (some b) n = go (isTag t && codesFit (record { red = r; green = g; blue = b })) refl
+-- What holds of no line, and of each line with tag and codes in range, holds of what a line's numbers say.
+pub from-holds : (P : Option Line → Type 0) (t r g b : Option ℕ) (n : ℕ) → P none
+    → ((l : Line) → l .«name_length» ≡ n → GoodRange l → P (some l)) → P (lineFrom t r g b n)
+unfolding lineFrom
+from-holds P none r g b n none-does ranged-does = none-does
+from-holds P (some t) none g b n none-does ranged-does = none-does
+from-holds P (some t) (some r) none b n none-does ranged-does = none-does
+from-holds P (some t) (some r) (some g) none n none-does ranged-does = none-does
+from-holds P (some t) (some r) (some g) (some b) n none-does ranged-does = go (isTag t && codesFit (record { red = r; green = g; blue = b })) refl
   where
     go : (q : Bool) → (isTag t && codesFit (record { red = r; green = g; blue = b })) ≡ q
-        → Ranged (lineFrom (some t) (some r) (some g) (some b) n)
+        → P (lineFrom (some t) (some r) (some g) (some b) n)
     go true e =
         let h = and-eq-true-iff (isTag t) _ .0 e in
-        rw (e, lineFrom) (record { tag = h .0; codes = h .1 })
-    go false e = rw (e, lineFrom) tt
+        rw (e, lineFrom) (ranged-does _ refl (record { tag = h .0; codes = h .1 }))
+    go false e = rw (e, lineFrom) none-does
 
 pub line-ranged : (s : List ℕ) → Ranged (lineOf s)
-unfolding Ranged lineOf
+unfolding Ranged lineOf lineNumbers
 line-ranged s = go (lineFormed s) refl
   where
     go : (q : Bool) → lineFormed s ≡ q → Ranged (lineOf s)
-    go true e = rw (e, lineOf) (from-ranged _ _ _ _ _)
+    go true e = rw (e, lineOf) (from-holds Ranged _ _ _ _ _ tt (λ l n r. r))
     go false e = rw (e, lineOf) tt
 
 lines-ranged : (s : List ℕ) (k n : ℕ) → AllRanged (linesFrom s k n)

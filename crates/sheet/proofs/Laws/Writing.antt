@@ -1,0 +1,113 @@
+-- A line written column by column over the bytes lent (document 01, "Sheets").
+use Prim.Native.Nat.{ℕ, _+_, _-_, _≤_, _<_}
+use mathlib.Core.Bool.{true, false}
+use mathlib.Core.List.{List, [], _∷_, _++_, append-nil, append-assoc}
+use mathlib.Core.Path.{_≡_, refl, sym, ap, _∙_}
+use native.Mathlib.Omega.{arith}
+use borrow.Author.Tests.{le-leb, lt-leb}
+use borrow.Rule.Slice.PartMut.{putMid}
+use lib.ListN.{length, take, drop, set, replicate, length-append, length-drop, length-set, length-replicate}
+use lib.Seq.{length-take-le, drop-at}
+use Rattle.colour.specs.declared.Sample.{Sample}
+use Rattle.colour.specs.Colour.{codesFit}
+use Rattle.colour.specs.Question.{firstNo}
+use Rattle.sheet.specs.declared.writer.Written.the-variants as W
+use Rattle.sheet.specs.Answers.{written, writtenNumber}
+use Rattle.sheet.specs.Column.{blank, newline, columnOf, putAt}
+use Rattle.sheet.specs.Line.{tagColumns, codeColumns, nameColumns, lineLength, nameGood, numberColumns, lineBytes, writeNumber, writeLine}
+use Rattle.sheet.proofs.Laws.Numbers.{line-length-is}
+use Rattle.sheet.proofs.Laws.Parts.{put-next, set-next, part-put}
+use Rattle.sheet.proofs.Laws.Written.{column-length}
+
+-- A column that was lent comes back with its number.
+pub column-put : (at w n : ℕ) (s t : List ℕ) → at + w ≤ length s → t ≡ columnOf (length (take (at + w - at) (drop at s))) n
+    → putMid at (at + w - at) s t ≡ putAt at (columnOf w n) s
+column-put at w n s t fits e =
+    let size : length (take (at + w - at) (drop at s)) ≡ at + w - at =
+    length-take-le (at + w - at) (drop at s) (omega (arith, length-drop at s)) in
+    let width : at + w - at ≡ w = omega arith in
+    let is : t ≡ columnOf w n = e ∙ ap (λ (k : ℕ). columnOf k n) (size ∙ width) in
+    rw is (part-put at (at + w - at) s (columnOf w n) (column-length w n ∙ sym width))
+
+-- A number written where the text before it ends.
+column-next : (p d : List ℕ) (a w n : ℕ) → length p ≡ a → putAt a (columnOf w n) (p ++ drop a d) ≡ (p ++ columnOf w n) ++ drop (a + w) d
+column-next p d a w n end = put-next p d a end (columnOf w n) ∙ rw (column-length w n)
+
+-- The four numbers of a line, written one after another.
+pub numbers-written : (s : Sample) (l₀ l₁ l₂ l₃ l₄ : List ℕ) → l₁ ≡ putAt 0 (columnOf 10 (s .tag)) l₀
+    → l₂ ≡ putAt 10 (columnOf 6 (s .colour .red)) l₁
+    → l₃ ≡ putAt 16 (columnOf 6 (s .colour .green)) l₂
+    → l₄ ≡ putAt 22 (columnOf 6 (s .colour .blue)) l₃
+    → l₄ ≡ numberColumns s ++ drop 28 l₀
+unfolding numberColumns tagColumns codeColumns
+numbers-written s l₀ l₁ l₂ l₃ l₄ e₁ e₂ e₃ e₄ =
+    let t : List ℕ = columnOf 10 (s .tag) in
+    let r : List ℕ = columnOf 6 (s .colour .red) in
+    let g : List ℕ = columnOf 6 (s .colour .green) in
+    let h₁ : l₁ ≡ t ++ drop 10 l₀ = e₁ ∙ column-next [] l₀ 0 10 (s .tag) refl in
+    let h₂ : l₂ ≡ (t ++ r) ++ drop 16 l₀ = e₂ ∙ ap (putAt 10 r) h₁ ∙ column-next t l₀ 10 6 (s .colour .red) (column-length 10 (s .tag)) in
+    let h₃ : l₃ ≡ ((t ++ r) ++ g) ++ drop 22 l₀ =
+    e₃ ∙ ap (putAt 16 g) h₂ ∙ column-next (t ++ r) l₀ 16 6 (s .colour .green) (simp (length-append, column-length)) in
+    e₄ ∙ ap (putAt 22 (columnOf 6 (s .colour .blue))) h₃
+    ∙ column-next ((t ++ r) ++ g) l₀ 22 6 (s .colour .blue) (simp (length-append, column-length))
+
+numbers-length : (s : Sample) → length (numberColumns s) ≡ 28
+unfolding numberColumns tagColumns codeColumns
+numbers-length s = simp (length-append, column-length)
+
+-- The rest of a line after its numbers: a blank, the name with blanks after it in a part that was lent, a newline.
+module _ (s : Sample) (l₀ l₁ : List ℕ) (room : lineLength ≤ length l₀) (numbers : l₁ ≡ numberColumns s ++ drop 28 l₀) where
+  abbrev before : List ℕ
+  before = numberColumns s ++ (32 ∷ [])
+
+  before-length : length before ≡ 29
+  before-length = simp length-append (omega (arith, numbers-length s))
+
+  blank-set : set l₁ 28 32 ≡ before ++ drop 29 l₀
+  blank-set =
+      ap (λ (l : List ℕ). set l 28 32) numbers
+      ∙ set-next (numberColumns s) l₀ 28 (numbers-length s) 32 (omega (arith, line-length-is))
+
+  pub name-room : length (take 32 (drop 29 (set l₁ 28 32))) ≡ 32
+  name-room =
+      let rest : drop 29 (set l₁ 28 32) ≡ drop 29 l₀ = ap (drop 29) blank-set ∙ drop-at before (drop 29 l₀) 29 before-length in
+      rw rest (length-take-le 32 (drop 29 l₀) (omega (arith, length-drop 29 l₀, line-length-is)))
+
+  module _ (name t : List ℕ) (fits : length name ≤ nameColumns) (named : t ≡ name ++ replicate (length (take 32 (drop 29 (set l₁ 28 32))) - length name) blank) where
+    name-is : t ≡ name ++ replicate (nameColumns - length name) blank
+    unfolding nameColumns
+    name-is = named ∙ rw name-room
+
+    name-size : length t ≡ 32
+    unfolding nameColumns
+    name-size = ap length name-is ∙ simp length-append (omega (arith, length-replicate (32 - length name) blank))
+
+    name-put : putMid 29 32 (set l₁ 28 32) t ≡ (before ++ t) ++ drop 61 l₀
+    name-put =
+        part-put 29 32 (set l₁ 28 32) t name-size ∙ ap (putAt 29 t) blank-set ∙ put-next before l₀ 29 before-length t ∙ rw name-size
+
+    pub line-written : set (putMid 29 32 (set l₁ 28 32) t) 61 10 ≡ lineBytes s name ++ drop lineLength l₀
+    unfolding lineBytes blank newline
+    line-written =
+        ap (λ (l : List ℕ). set l 61 10) name-put
+        ∙ set-next (before ++ t) l₀ 61 (length-append before t ∙ omega (arith, before-length, name-size)) 10 (omega (arith, line-length-is))
+        ∙ rw (name-is, line-length-is) (simp append-assoc)
+
+-- The writer's answers, one question after another.
+module _ (s : Sample) (name lent : List ℕ) where
+  pub not-codes : codesFit (s .colour) ≡ false → written W.NotCodes lent ≡ writeLine s name lent
+  unfolding written writtenNumber writeLine writeNumber firstNo
+  not-codes c = rw c
+
+  pub not-name : codesFit (s .colour) ≡ true → nameGood name ≡ false → written W.NotName lent ≡ writeLine s name lent
+  unfolding written writtenNumber writeLine writeNumber firstNo
+  not-name c n = rw (c, n)
+
+  pub too-short : codesFit (s .colour) ≡ true → nameGood name ≡ true → length lent < lineLength → written W.TooShort lent ≡ writeLine s name lent
+  unfolding written writtenNumber writeLine writeNumber firstNo
+  too-short c n h = rw (c, n, lt-leb lineLength (length lent) h)
+
+  pub is-written : codesFit (s .colour) ≡ true → nameGood name ≡ true → lineLength ≤ length lent
+      → (left : List ℕ) → left ≡ lineBytes s name ++ drop lineLength lent → written W.Line left ≡ writeLine s name lent
+  unfolding written writtenNumber writeLine writeNumber firstNo
+  is-written c n h left e = rw (c, n, le-leb lineLength (length lent) h, e)

@@ -1,0 +1,42 @@
+-- `column::read_number`: the text after the blanks is the trimmed text.
+use mathlib.Core.Path.{sym, ap, _∙_}
+use native.Mathlib.Omega.{arith}
+use Rattle.sheet.specs.Column.{decimalIn, columnNumber, within}
+use Rattle.sheet.proofs.Laws.Parts.{part-tail}
+use Rattle.sheet.proofs.Laws.Text.{after-blanks}
+use borrow.Author.Needs.{needs}
+use Rattle.sheet.proofs.column.read_number.Statement.{statement}
+use Rattle.sheet.proofs.column.read_number.Tie as tie
+
+blanks-requires : tie.Need-blanks-requires
+blanks-requires c κs = search needs
+
+sub-decimal : tie.Need-sub-decimal
+sub-decimal c = omega arith
+
+part-decimal-start : tie.Need-part-decimal-start
+part-decimal-start c = omega arith
+
+part-decimal-end : tie.Need-part-decimal-end
+part-decimal-end c = search needs
+
+decimal-requires : tie.Need-decimal-requires
+decimal-requires c κs = search needs
+
+returns : tie.Need-returns
+unfolding columnNumber
+returns c =
+    let d = c .before .before in
+    c .decimal .ensures
+    ∙ ap (λ s. within (d .before .before .args .most) (decimalIn s)) (part-tail (d .before .before .args .column .now) (d .blanks .result) ∙ after-blanks _ _ (d .blanks .ensures))
+
+pub read-number-spec : {M : Type 1} → statement M
+read-number-spec =
+    tie.close
+    (tie.spec
+    blanks-requires
+    sub-decimal
+    part-decimal-start
+    part-decimal-end
+    decimal-requires
+    returns)

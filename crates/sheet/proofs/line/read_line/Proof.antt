@@ -1,0 +1,78 @@
+-- `line::read_line`: each return by the tests that led there, by laws of Laws.Lines.
+use Prim.Native.Nat.{_-_}
+use mathlib.Core.Path.{_≡_, sym, ap, _∙_}
+use native.Mathlib.Omega.{arith}
+use lib.ListN.{take, drop}
+use Rattle.sheet.specs.declared.line.Reading.the-variants as R
+use Rattle.sheet.specs.Answers.{lineAnswer}
+use Rattle.sheet.specs.Column.{blank, newline}
+use Rattle.sheet.specs.Line.{tagColumns, codeColumns, nameColumns, redStart, greenStart, blueStart, blankAt, nameStart, newlineAt, lineLength, nameField}
+use Rattle.sheet.proofs.Laws.Lines.{answer-is, other-length, no-blank, no-newline, no-name, has-name}
+use borrow.Author.Needs.{needs}
+use Rattle.sheet.proofs.line.read_line.Statement.{statement}
+use Rattle.sheet.proofs.line.read_line.Tie as tie
+
+returns : tie.Need-returns
+unfolding lineAnswer tagColumns codeColumns nameColumns redStart greenStart blueStart blankAt nameStart newlineAt lineLength
+returns c = answer-is R.NotGood _ (other-length _ (c .if1 .taken))
+
+shared-slice-read-if2 : tie.Need-shared-slice-read-if2
+shared-slice-read-if2 c = search needs
+
+returns-2 : tie.Need-returns-2
+unfolding lineAnswer blank tagColumns codeColumns nameColumns redStart greenStart blueStart blankAt nameStart newlineAt lineLength
+returns-2 c = answer-is R.NotGood _ (no-blank _ (c .if2 .taken))
+
+shared-slice-read-if3 : tie.Need-shared-slice-read-if3
+shared-slice-read-if3 c = search needs
+
+returns-3 : tie.Need-returns-3
+unfolding lineAnswer newline tagColumns codeColumns nameColumns redStart greenStart blueStart blankAt nameStart newlineAt lineLength
+returns-3 c = answer-is R.NotGood _ (no-newline _ (c .if3 .taken))
+
+sub-name-length : tie.Need-sub-name-length
+sub-name-length c = search needs
+
+part-name-length-start : tie.Need-part-name-length-start
+part-name-length-start c = search needs
+
+part-name-length-end : tie.Need-part-name-length-end
+part-name-length-end c = search needs
+
+name-length-requires : tie.Need-name-length-requires
+name-length-requires c κs = search needs
+
+returns-4 : tie.Need-returns-4
+unfolding lineAnswer nameField tagColumns codeColumns nameColumns redStart greenStart blueStart blankAt nameStart newlineAt lineLength
+returns-4 c = answer-is R.NotGood _ (no-name _ (sym (c .if4 .taken) ∙ c .before .name-length .ensures))
+
+numbers-requires : tie.Need-numbers-requires
+unfolding tagColumns codeColumns nameColumns redStart greenStart blueStart blankAt nameStart newlineAt lineLength
+numbers-requires c κs = c .before .before .before .before .before .before .before .if1 .left
+
+returns-5 : tie.Need-returns-5
+unfolding blank newline nameField tagColumns codeColumns nameColumns redStart greenStart blueStart blankAt nameStart newlineAt lineLength
+returns-5 c =
+    let d = c .before .before in
+    let f = d .before .before in
+    let g = f .before .before in
+    answer-is _ _
+    (c .numbers .ensures
+    ∙ has-name _ _ (d .name-length .ensures) (c .before .if4 .left) (g .before .before .if1 .left) (g .if2 .left) (f .if3 .left))
+
+pub read-line-spec : {M : Type 1} → statement M
+read-line-spec =
+    tie.close
+    (tie.spec
+    returns
+    shared-slice-read-if2
+    returns-2
+    shared-slice-read-if3
+    returns-3
+    sub-name-length
+    part-name-length-start
+    part-name-length-end
+    name-length-requires
+    returns-4
+    numbers-requires
+    returns-5)

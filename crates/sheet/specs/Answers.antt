@@ -1,0 +1,40 @@
+-- The answers of this crate's enums: for each case the paper's number and values (document 01, "Our forms for each place").
+use Prim.Native.Nat.{ℕ}
+use mathlib.Core.List.{List}
+use mathlib.Core.Option.{Option, none, some}
+use Rattle.sheet.specs.declared.column.Number.{Number}
+use Rattle.sheet.specs.declared.column.Number.the-variants as N
+use Rattle.sheet.specs.declared.header.Header.{Header}
+use Rattle.sheet.specs.declared.header.Header.the-variants as H
+use Rattle.sheet.specs.declared.line.Reading.{Reading}
+use Rattle.sheet.specs.declared.line.Reading.the-variants as R
+use Rattle.sheet.specs.declared.writer.Written.{Written}
+use Rattle.sheet.specs.declared.writer.Written.the-variants as W
+use Rattle.sheet.specs.Line.{LineAnswer, WriteAnswer}
+use Rattle.sheet.specs.Sheet.{HeaderAnswer}
+
+-- A number in a column.
+unfoldable pub numberIs : Number → Option ℕ
+numberIs (N.Is n) = some n
+numberIs N.Missing = none
+
+-- A header: question 11.
+unfoldable pub headerAnswer : Header → HeaderAnswer
+headerAnswer (H.Lines n) = record { number = 0; lines = some n }
+headerAnswer H.NotGood = record { number = 11; lines = none }
+
+-- A line: question 12.
+unfoldable pub lineAnswer : Reading → LineAnswer
+lineAnswer (R.Good l) = record { number = 0; line = some l }
+lineAnswer R.NotGood = record { number = 12; line = none }
+
+-- A line to write: questions 4, 10, 13.
+unfoldable pub writtenNumber : Written → ℕ
+writtenNumber W.Line = 0
+writtenNumber W.NotCodes = 4
+writtenNumber W.NotName = 10
+writtenNumber W.TooShort = 13
+
+-- With the bytes lent, as they are left.
+unfoldable pub written : Written → List ℕ → WriteAnswer
+written w lent = record { number = writtenNumber w; lent = lent }

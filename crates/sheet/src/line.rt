@@ -1,0 +1,124 @@
+// A line: its columns, and what it says.
+use crate::column::Number;
+use crate::column::read_number;
+use crate::text::blanks;
+use crate::text::name_bytes;
+use colour::Colour;
+use colour::Sample;
+ghost use mathlib.Core.Path.{_≡_};
+ghost use Prim.Native.Nat.{_+_, _≤_};
+ghost use lib.ListN.{length};
+ghost use Rattle.sheet.specs.Answers.{numberIs, lineAnswer};
+ghost use Rattle.sheet.specs.Column.{within};
+ghost use Rattle.sheet.specs.Line.{codeColumns, lineLength, nameLengthIn, codeColumn, lineNumbers, readLine};
+
+// The columns of a line, and where each starts.
+pub const TAG_COLUMNS: usize = 10;
+
+pub const CODE_COLUMNS: usize = 6;
+
+pub const NAME_COLUMNS: usize = 32;
+
+pub const RED_START: usize = TAG_COLUMNS;
+
+pub const GREEN_START: usize = RED_START + CODE_COLUMNS;
+
+pub const BLUE_START: usize = GREEN_START + CODE_COLUMNS;
+
+pub const BLANK_AT: usize = BLUE_START + CODE_COLUMNS;
+
+pub const NAME_START: usize = BLANK_AT + 1;
+
+pub const NEWLINE_AT: usize = NAME_START + NAME_COLUMNS;
+
+pub const LINE_LENGTH: usize = NEWLINE_AT + 1;
+
+// The greatest tag and the greatest code.
+const TAG_MOST: u64 = 0xffff_ffff;
+
+const CODE_MOST: u64 = 65535;
+
+// What a good line says: its sample, and the length of its name.
+pub struct Line {
+    pub sample: Sample,
+    pub name_length: usize,
+}
+
+// What a line reads as, or that it is not good: question 12.
+pub enum Reading {
+    Good(Line),
+    NotGood,
+}
+
+// The length of the name in its columns, 0 where they are not a name and blanks after.
+fn name_length(field: &[u8]) -> usize
+    ensures { λ r. ⌜ r ≡ nameLengthIn (now (field .entry)) ⌝ }
+{
+    let n = name_bytes(field);
+    if n > NAME_COLUMNS {
+        return 0;
+    }
+    let rest = &field[n..];
+    if blanks(rest) < rest.len() {
+        return 0;
+    }
+    n
+}
+
+// The code in the columns that start at `at`.
+fn code_at(line: &[u8], at: usize) -> Number
+    requires { ⌜ at + codeColumns ≤ length (now line) ⌝ }
+    ensures { λ r. ⌜ numberIs r ≡ within 65535 (codeColumn (now (line .entry)) at) ⌝ }
+{
+    read_number(&line[at..at + CODE_COLUMNS], CODE_MOST)
+}
+
+// What a line's numbers say, beside a name of the length given.
+fn numbers(line: &[u8], name_length: usize) -> Reading
+    requires { ⌜ length (now line) ≡ lineLength ⌝ }
+    ensures { λ r. ⌜ lineAnswer r .line ≡ lineNumbers (now (line .entry)) «name_length» ⌝ }
+{
+    let Number::Is(tag) = read_number(&line[..TAG_COLUMNS], TAG_MOST) else {
+        return Reading::NotGood;
+    };
+    let Number::Is(red) = code_at(line, RED_START) else {
+        return Reading::NotGood;
+    };
+    let Number::Is(green) = code_at(line, GREEN_START) else {
+        return Reading::NotGood;
+    };
+    let Number::Is(blue) = code_at(line, BLUE_START) else {
+        return Reading::NotGood;
+    };
+    Reading::Good(Line {
+        sample: Sample {
+            tag: tag as u32,
+            colour: Colour {
+                red: red as u32,
+                green: green as u32,
+                blue: blue as u32,
+            },
+        },
+        name_length,
+    })
+}
+
+// Reads a line.
+pub fn read_line(line: &[u8]) -> Reading
+    ensures { λ r. ⌜ lineAnswer r ≡ readLine (now (line .entry)) ⌝ }
+{
+    if line.len() != LINE_LENGTH {
+        return Reading::NotGood;
+    }
+    if line[BLANK_AT] != b' ' {
+        return Reading::NotGood;
+    }
+    if line[NEWLINE_AT] != b'\n' {
+        return Reading::NotGood;
+    }
+    let n = name_length(&line[NAME_START..NEWLINE_AT]);
+    if n == 0 {
+        return Reading::NotGood;
+    }
+    numbers(line, n)
+}
