@@ -1,9 +1,13 @@
 -- Records of document 01 from the flat numbers, floats and lent words of a C call.
 use Prim.Native.Nat.{ℕ}
+use mathlib.Core.List.{List}
 use lib.Ieee.{Float}
 use Rattle.colour.specs.declared.Colour.{Colour}
 use Rattle.colour.specs.declared.PanelColour.{PanelColour}
+use Rattle.colour.specs.declared.Sample.{Sample}
 use Rattle.colour.specs.Panel.{CodesAnswer, FloatsAnswer}
+use Rattle.sheet.specs.declared.lookup.Part.{Part}
+use Rattle.sheet.specs.Line.{WriteAnswer}
 
 -- A colour from three numbers, and a panel colour from three floats.
 abbrev pub colourOf : ℕ → ℕ → ℕ → Colour
@@ -12,9 +16,21 @@ colourOf r g b = record { red = r; green = g; blue = b }
 abbrev pub panelColourOf : Float → Float → Float → PanelColour
 panelColourOf r g b = record { red = r; green = g; blue = b }
 
+-- A sample from four numbers.
+abbrev pub sampleOf : ℕ → ℕ → ℕ → ℕ → Sample
+sampleOf t r g b = record { tag = t; colour = colourOf r g b }
+
 -- The answer is the number returned and the three words as the call leaves them.
 abbrev pub codesLent : ℕ → ℕ → ℕ → ℕ → CodesAnswer
 codesLent n r g b = record { number = n; codes = colourOf r g b }
 
 abbrev pub floatsLent : ℕ → Float → Float → Float → FloatsAnswer
 floatsLent n r g b = record { number = n; floats = panelColourOf r g b }
+
+-- The number returned, and the bytes lent for a line as the call leaves them.
+abbrev pub lineLent : ℕ → List ℕ → WriteAnswer
+lineLent n lent = record { number = n; lent = lent }
+
+-- A part of a sheet, by the two words that the call leaves.
+abbrev pub partLent : ℕ → ℕ → Part
+partLent start size = record { start = start; size = size }

@@ -1,11 +1,14 @@
 // The C boundary. Each call takes numbers, floats and lent words, and is a thin call of the crate that does the work.
 use colour::Colour;
 use colour::PanelColour;
+use colour::Sample;
 use colour::panel::Codes;
 use colour::panel::Floats;
 ghost use mathlib.Core.Path.{_≡_};
 ghost use Rattle.colour.specs.Panel.{floatsToCodes, codesToFloats};
-ghost use Rattle.hubeltxa.specs.Lent.{colourOf, panelColourOf, codesLent, floatsLent};
+ghost use Rattle.sheet.specs.Line.{writeLine};
+ghost use Rattle.sheet.specs.Sheet.{namePart};
+ghost use Rattle.hubeltxa.specs.Lent.{colourOf, panelColourOf, sampleOf, codesLent, floatsLent, lineLent, partLent};
 
 // Floats to codes.
 #[no_mangle]
@@ -63,4 +66,34 @@ pub extern "C" fn hbx_floats(
             4
         }
     }
+}
+
+// Writes a sheet's line.
+#[no_mangle]
+pub extern "C" fn hbx_line(
+    tag: u32,
+    red: u32,
+    green: u32,
+    blue: u32,
+    name: &[u8],
+    line: &mut [u8],
+) -> u32
+    ensures { λ r. ⌜ lineLent r (now (line .exit))
+        ≡ writeLine (sampleOf tag red green blue) (now (name .entry)) (now (line .entry)) ⌝ }
+{
+    let sample = Sample {
+        tag,
+        colour: Colour { red, green, blue },
+    };
+    sheet::writer::number_of(sheet::writer::write_line(sample, name, line))
+}
+
+// Looks a name up: where in the sheet it starts, and its length.
+#[no_mangle]
+pub extern "C" fn hbx_name(sheet: &[u8], tag: u32, start: &mut usize, length: &mut usize)
+    ensures { λ _. ⌜ partLent (now (start .exit)) (now (length .exit)) ≡ namePart (now (sheet .entry)) tag ⌝ }
+{
+    let part = sheet::lookup::name_part(sheet, tag);
+    *start = part.start;
+    *length = part.size;
 }
