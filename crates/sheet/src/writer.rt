@@ -14,10 +14,11 @@ use crate::text::name_bytes;
 use crate::text::put_left;
 use colour::Sample;
 use colour::panel::codes_fit;
-ghost use mathlib.Core.List.{_++_};
+ghost use mathlib.Core.List.{[], _∷_, _++_};
 ghost use mathlib.Core.Path.{_≡_};
 ghost use Prim.Native.Nat.{_+_, _≤_};
 ghost use lib.ListN.{length, drop};
+ghost use Rattle.colour.specs.Question.{asks, firstNo};
 ghost use Rattle.sheet.specs.Answers.{written, writtenNumber};
 ghost use Rattle.sheet.specs.Column.{columnOf, putAt};
 ghost use Rattle.sheet.specs.Line.{nameColumns, blankAt, lineLength, nameGood, numberColumns, lineBytes, writeLine};
@@ -85,19 +86,33 @@ fn put_line(sample: Sample, name: &[u8], line: &mut [u8])
     line[NEWLINE_AT] = b'\n';
 }
 
+// The first of the writer's questions that has a no.
+fn first_no(codes: bool, name: bool, room: bool) -> Written
+    ensures { λ r. ⌜ writtenNumber r ≡ firstNo (asks 4 codes ∷ asks 10 name ∷ asks 13 room ∷ []) ⌝ }
+{
+    if !codes {
+        return Written::NotCodes;
+    }
+    if !name {
+        return Written::NotName;
+    }
+    if !room {
+        return Written::TooShort;
+    }
+    Written::Line
+}
+
 // Writes a line over the first 62 bytes lent, and leaves the rest; a refusal writes nothing: an exported call.
 pub fn write_line(sample: Sample, name: &[u8], line: &mut [u8]) -> Written
     ensures { λ r. ⌜ written r (now (line .exit)) ≡ writeLine sample (now (name .entry)) (now (line .entry)) ⌝ }
 {
-    if !codes_fit(sample.colour) {
-        return Written::NotCodes;
+    let answer = first_no(
+        codes_fit(sample.colour),
+        name_good(name),
+        line.len() >= LINE_LENGTH,
+    );
+    if let Written::Line = answer {
+        put_line(sample, name, line);
     }
-    if !name_good(name) {
-        return Written::NotName;
-    }
-    if line.len() < LINE_LENGTH {
-        return Written::TooShort;
-    }
-    put_line(sample, name, line);
-    Written::Line
+    answer
 }

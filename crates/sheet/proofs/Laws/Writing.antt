@@ -1,16 +1,23 @@
 -- A line written column by column over the bytes lent (document 01, "Sheets").
 use Prim.Native.Nat.{ℕ, _+_, _-_, _≤_, _<_}
-use mathlib.Core.Bool.{true, false}
+use mathlib.Core.Bool.{Bool, true, false}
 use mathlib.Core.List.{List, [], _∷_, _++_, append-nil, append-assoc}
 use mathlib.Core.Path.{_≡_, refl, sym, ap, _∙_}
 use native.Mathlib.Omega.{arith}
-use borrow.Author.Tests.{le-leb, lt-leb}
+use borrow.Author.Tests.{eq-eqb, ne-eqb, leb-true}
+use types.Run.{OneOf}
+use denote.Enum.Declared.{tagOf}
+use mathlib.Core.Logic.{⊎-elim}
+use lib.Dec.{leb}
 use borrow.Rule.Slice.PartMut.{putMid}
 use lib.ListN.{length, take, drop, set, replicate, length-append, length-drop, length-set, length-replicate}
 use lib.Seq.{length-take-le, drop-at}
 use Rattle.colour.specs.declared.Sample.{Sample}
 use Rattle.colour.specs.Colour.{codesFit}
-use Rattle.colour.specs.Question.{firstNo}
+use Rattle.colour.specs.Question.{asks, firstNo}
+use Rattle.colour.proofs.Laws.Questions.{asked}
+use Rattle.sheet.specs.declared.writer.Written.{Written}
+use Rattle.sheet.proofs.writer.Written.{the-type}
 use Rattle.sheet.specs.declared.writer.Written.the-variants as W
 use Rattle.sheet.specs.Answers.{written, writtenNumber}
 use Rattle.sheet.specs.Column.{blank, newline, columnOf, putAt}
@@ -93,21 +100,57 @@ module _ (s : Sample) (l₀ l₁ : List ℕ) (room : lineLength ≤ length l₀)
         ∙ set-next (before ++ t) l₀ 61 (length-append before t ∙ omega (arith, before-length, name-size)) 10 (omega (arith, line-length-is))
         ∙ rw (name-is, line-length-is) (simp append-assoc)
 
--- The writer's answers, one question after another.
-module _ (s : Sample) (name lent : List ℕ) where
-  pub not-codes : codesFit (s .colour) ≡ false → written W.NotCodes lent ≡ writeLine s name lent
-  unfolding written writtenNumber writeLine writeNumber firstNo
-  not-codes c = rw c
+-- The writer's questions, one after another.
+module _ (codes name room : Bool) where
+  abbrev number : ℕ
+  number = firstNo (asks 4 codes ∷ asks 10 name ∷ asks 13 room ∷ [])
 
-  pub not-name : codesFit (s .colour) ≡ true → nameGood name ≡ false → written W.NotName lent ≡ writeLine s name lent
-  unfolding written writtenNumber writeLine writeNumber firstNo
-  not-name c n = rw (c, n)
+  pub no-codes : codes ≡ false → 4 ≡ number
+  unfolding firstNo
+  no-codes c = rw c
 
-  pub too-short : codesFit (s .colour) ≡ true → nameGood name ≡ true → length lent < lineLength → written W.TooShort lent ≡ writeLine s name lent
-  unfolding written writtenNumber writeLine writeNumber firstNo
-  too-short c n h = rw (c, n, lt-leb lineLength (length lent) h)
+  pub no-name : codes ≡ true → name ≡ false → 10 ≡ number
+  unfolding firstNo
+  no-name c n = rw (c, n)
 
-  pub is-written : codesFit (s .colour) ≡ true → nameGood name ≡ true → lineLength ≤ length lent
-      → (left : List ℕ) → left ≡ lineBytes s name ++ drop lineLength lent → written W.Line left ≡ writeLine s name lent
-  unfolding written writtenNumber writeLine writeNumber firstNo
-  is-written c n h left e = rw (c, n, le-leb lineLength (length lent) h, e)
+  pub no-room : codes ≡ true → name ≡ true → room ≡ false → 13 ≡ number
+  unfolding firstNo
+  no-room c n r = rw (c, n, r)
+
+  pub no-no : codes ≡ true → name ≡ true → room ≡ true → 0 ≡ number
+  unfolding firstNo
+  no-no c n r = rw (c, n, r)
+
+-- An answer that is not the line's is a refusal.
+pub refused : (w : Written) → OneOf (1 ∷ 2 ∷ 3 ∷ []) (tagOf the-type w) → writtenNumber w ≡ 0 → ⊥
+unfolding writtenNumber
+refused W.Line t e = ⊎-elim (λ z. omega arith) (⊎-elim (λ z. omega arith) (λ z. omega arith)) t
+refused W.NotCodes t e = omega arith
+refused W.NotName t e = omega arith
+refused W.TooShort t e = omega arith
+
+-- What is asked of the line to write, as the code asks it.
+module _ (s : Sample) (name lent : List ℕ) (codes good room : Bool) (w : Written)
+    (c : codes ≡ codesFit (s .colour)) (n : good ≡ nameGood name) (r : room ≡ leb 62 (length lent))
+    (said : writtenNumber w ≡ firstNo (asks 4 codes ∷ asks 10 good ∷ asks 13 room ∷ [])) where
+  number-is : writtenNumber w ≡ writeNumber s name lent
+  unfolding writeNumber
+  number-is = said ∙ rw (c, n, r, line-length-is)
+
+  -- A refusal leaves the bytes lent.
+  pub left-alone : (writtenNumber w ≡ 0 → ⊥) → written w lent ≡ writeLine s name lent
+  unfolding written writeLine
+  left-alone z = rw (number-is, ne-eqb (writeNumber s name lent) 0 (λ e. z (number-is ∙ e)))
+
+  -- Where none is refused, each was answered with yes.
+  pub all-yes : writtenNumber w ≡ 0 → (nameGood name ≡ true) × (lineLength ≤ length lent)
+  all-yes z =
+      let after = asked 4 codes _ (λ e. omega arith) (sym said ∙ z) in
+      let named = asked 10 good _ (λ e. omega arith) (after .1) in
+      let long = asked 13 room _ (λ e. omega arith) (named .1) in
+      (sym n ∙ named .0, omega (arith, line-length-is, leb-true 62 (length lent) (sym r ∙ long .0)))
+
+  -- The line stands over the bytes lent.
+  pub line-stands : writtenNumber w ≡ 0 → (left : List ℕ) → left ≡ lineBytes s name ++ drop lineLength lent → written w left ≡ writeLine s name lent
+  unfolding written writeLine
+  line-stands z left e = rw (number-is, eq-eqb (writeNumber s name lent) 0 (sym number-is ∙ z), e)

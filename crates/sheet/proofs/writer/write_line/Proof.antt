@@ -1,10 +1,8 @@
--- `writer::write_line`: each return by the questions that led there, by laws of Laws.Writing.
-use mathlib.Core.Path.{sym, _∙_}
-use borrow.Author.Tests.{not-true, not-false}
-use native.Mathlib.Omega.{arith}
+-- `writer::write_line`: the first no gives the answer; where there is none, put_line wrote the line.
+use mathlib.Core.Path.{refl, ap}
+use Rattle.sheet.specs.Answers.{writtenNumber}
 use Rattle.sheet.proofs.Laws.Names.{name-good}
-use Rattle.sheet.proofs.Laws.Numbers.{line-length-is}
-use Rattle.sheet.proofs.Laws.Writing.{not-codes, not-name, too-short, is-written}
+use Rattle.sheet.proofs.Laws.Writing.{refused, left-alone, all-yes, line-stands}
 use borrow.Author.Needs.{needs}
 use Rattle.sheet.proofs.writer.write_line.Statement.{statement}
 use Rattle.sheet.proofs.writer.write_line.Tie as tie
@@ -12,49 +10,49 @@ use Rattle.sheet.proofs.writer.write_line.Tie as tie
 codes-fit-requires : tie.Need-codes-fit-requires
 codes-fit-requires c κs = search needs
 
-returns : tie.Need-returns
-returns c = not-codes _ _ _ (sym (c .before .codes-fit .ensures) ∙ not-true _ (c .if1 .taken))
-
 name-good-requires : tie.Need-name-good-requires
 name-good-requires c κs = search needs
 
-returns-2 : tie.Need-returns-2
-returns-2 c =
-    let d = c .before .before in
-    not-name _ _ _ (sym (d .before .codes-fit .ensures) ∙ not-false _ (d .if1 .left)) (sym (c .before .name-good .ensures) ∙ not-true _ (c .if2 .taken))
+first-no-requires : tie.Need-first-no-requires
+first-no-requires c κs = search needs
 
-returns-3 : tie.Need-returns-3
-returns-3 c =
-    let e = c .before in
-    let d = e .before .before in
-    too-short _ _ _ (sym (d .before .codes-fit .ensures) ∙ not-false _ (d .if1 .left)) (sym (e .before .name-good .ensures) ∙ not-false _ (e .if2 .left))
-    (omega (arith, line-length-is))
+enum-told : tie.Need-enum-told
+enum-told c = search needs
 
 put-line-requires : tie.Need-put-line-requires
+unfolding writtenNumber
 put-line-requires c κs =
-    let e = c .before .before in
-    (name-good _ (sym (e .before .name-good .ensures) ∙ not-false _ (e .if2 .left)) .fits, omega (arith, line-length-is))
+    let d = c .before .before .before in
+    let a = d .before .before .before .before .before .args in
+    let yes =
+    all-yes (a .sample) (a .name .now) (a .line .now) _ _ _ (d .first-no .result) (d .before .before .codes-fit .ensures)
+    (d .before .name-good .ensures) refl (d .first-no .ensures) (ap writtenNumber (c .before .enum-told .given .1)) in
+    (name-good _ (yes .0) .fits, yes .1)
 
 same-length : tie.Need-same-length
 same-length c = search needs
 
-returns-4 : tie.Need-returns-4
-returns-4 c =
-    let f = c .before .before .before .before in
-    let e = f .before in
+returns : tie.Need-returns
+unfolding writtenNumber
+returns c =
+    let e = c .before .before .before .before in
     let d = e .before .before in
-    is-written _ _ _ (sym (d .before .codes-fit .ensures) ∙ not-false _ (d .if1 .left)) (sym (e .before .name-good .ensures) ∙ not-false _ (e .if2 .left))
-    (omega (arith, line-length-is)) _ (c .before .before .put-line .ensures)
+    line-stands _ _ _ _ _ _ _ (d .before .before .codes-fit .ensures) (d .before .name-good .ensures) refl (d .first-no .ensures) (ap writtenNumber (e .enum-told .given .1)) _ (c .before .before .put-line .ensures)
+
+returns-2 : tie.Need-returns-2
+returns-2 c =
+    let d = c .before in
+    left-alone _ _ _ _ _ _ _ (d .before .before .codes-fit .ensures) (d .before .name-good .ensures) refl (d .first-no .ensures) (refused _ (c .match .keys2))
 
 pub write-line-spec : {M : Type 1} → statement M
 write-line-spec =
     tie.close
     (tie.spec
     codes-fit-requires
-    returns
     name-good-requires
-    returns-2
-    returns-3
+    first-no-requires
+    enum-told
     put-line-requires
     same-length
-    returns-4)
+    returns
+    returns-2)
