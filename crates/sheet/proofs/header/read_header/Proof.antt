@@ -75,7 +75,9 @@ returns-6 : tie.Need-returns-6
 unfolding numberIs
 returns-6 c =
     let d = c .before .before .before .before in
-    not-good _ (λ n f. c .if5 .taken (count-is _ _ n (sym (d .before .before .if4 .left)) f _ (ap numberIs (sym (c .before .before .count .given .1)) ∙ d .read-number .ensures)))
+    not-good _ (λ n f.
+    let same = count-is _ _ n (sym (d .before .before .if4 .left)) f _ (ap numberIs (sym (c .before .before .count .given .1)) ∙ d .read-number .ensures) in
+    omega arith)
 
 returns-7 : tie.Need-returns-7
 unfolding numberIs title
