@@ -1,9 +1,7 @@
 -- The answers of this crate's enums: for each case the paper's number and values (document 01, "Our forms for each place").
 use Prim.Native.Nat.{ℕ}
 use mathlib.Core.List.{List}
-use mathlib.Core.Option.{Option, none, some}
-use Rattle.sheet.specs.declared.column.Number.{Number}
-use Rattle.sheet.specs.declared.column.Number.the-variants as N
+use mathlib.Core.Option.{none, some}
 use Rattle.sheet.specs.declared.header.Header.{Header}
 use Rattle.sheet.specs.declared.header.Header.the-variants as H
 use Rattle.sheet.specs.declared.line.Reading.{Reading}
@@ -12,11 +10,6 @@ use Rattle.sheet.specs.declared.writer.Written.{Written}
 use Rattle.sheet.specs.declared.writer.Written.the-variants as W
 use Rattle.sheet.specs.Line.{LineAnswer, WriteAnswer}
 use Rattle.sheet.specs.Sheet.{HeaderAnswer}
-
--- A number in a column.
-unfoldable pub numberIs : Number → Option ℕ
-numberIs (N.Is n) = some n
-numberIs N.Missing = none
 
 -- A header: question 11.
 unfoldable pub headerAnswer : Header → HeaderAnswer

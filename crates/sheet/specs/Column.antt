@@ -4,7 +4,7 @@ use mathlib.Core.Bool.{Bool, true, false, _&&_}
 use mathlib.Core.List.{List, [], _∷_, _++_}
 use mathlib.Core.Option.{Option, none, some}
 use lib.Dec.{leb, ltb, eqb}
-use lib.ListN.{length, take, drop, replicate}
+use lib.ListN.{length, replicate}
 
 -- A blank is byte 32, a newline byte 10.
 unfoldable pub blank : ℕ
@@ -38,11 +38,6 @@ unfoldable pub present : {A : Type 0} → Option A → Bool
 present none = false
 present (some a) = true
 
--- A number that is at most `most`; none where it is greater.
-unfoldable pub within : ℕ → Option ℕ → Option ℕ
-within most none = none
-within most (some n) = elim (leb n most) [ true ↦ some n | false ↦ none ]
-
 -- The digits of n, w at the most.
 unfoldable pub decimal : ℕ → ℕ → List ℕ
 decimal zero n = []
@@ -51,7 +46,3 @@ decimal (suc w) n = elim (ltb n 10) [ true ↦ (48 + n) ∷ [] | false ↦ decim
 -- n written in w columns.
 unfoldable pub columnOf : ℕ → ℕ → List ℕ
 columnOf w n = replicate (w - length (decimal w n)) blank ++ decimal w n
-
--- A text with t written over it from place `at` on.
-unfoldable pub putAt : ℕ → List ℕ → List ℕ → List ℕ
-putAt at t s = take at s ++ (t ++ drop (at + length t) s)

@@ -1,9 +1,10 @@
 -- One name that opens every definition of this crate and of `colour`: a proof that computes with them says `unfolding sheetComputes`.
 use Rattle.colour.specs.Computes.{colourComputes}
-use Rattle.sheet.specs.Column.{blank, newline, trimmed, digitsAfter, decimalIn, columnNumber, present, within, decimal, columnOf, putAt}
+use Rattle.sheet.specs.Column.{blank, newline, trimmed, digitsAfter, decimalIn, columnNumber, present, decimal, columnOf}
 use Rattle.sheet.specs.Line.{tagColumns, codeColumns, nameColumns, redStart, greenStart, blueStart, blankAt, nameStart, newlineAt, lineLength}
-use Rattle.sheet.specs.Line.{nameByte, leading, nameGood, nameFieldGood, lineFrom, nameLengthIn, nameField, lineFormed, codeColumn, lineNumbers, lineOf, readLine}
+use Rattle.sheet.specs.Line.{nameByte, leading, nameGood, nameFieldGood, lineFrom, nameField, lineFormed, codeColumn, lineNumbers, lineOf, readLine}
 use Rattle.sheet.specs.Line.{numberColumns, lineBytes, writeNumber, writeLine}
+use Rattle.sheet.specs.Steps.{within, putAt, nameLengthIn}
 use Rattle.sheet.specs.Sheet.{title, sameBytes, countColumns, headerLength, lineStart, countIf, lineCount, readHeader, linePart, linesFrom, linesBy, linesOf}
 use Rattle.sheet.specs.Sheet.{emptyPart, bytesOf, allGood, namePartFrom, namePartOf, namePart, headerBytes, linesBytes, sheetBytes}
 

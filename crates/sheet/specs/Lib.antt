@@ -3,4 +3,5 @@ pub mod Column
 pub mod Line
 pub mod Sheet
 pub mod Answers
+pub mod Steps
 pub mod Computes

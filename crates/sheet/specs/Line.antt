@@ -71,10 +71,6 @@ lineFrom (some t) (some r) (some g) (some b) n =
     let c : Colour = record { red = r; green = g; blue = b } in
     elim (isTag t && codesFit c) [ true ↦ some (record { sample = record { tag = t; colour = c }; «name_length» = n }) | false ↦ none ]
 
--- The length of the name in its columns, 0 where these are not good.
-unfoldable pub nameLengthIn : List ℕ → ℕ
-nameLengthIn s = elim (nameFieldGood s) [ true ↦ length (leading s) | false ↦ 0 ]
-
 -- The columns of a line's name.
 unfoldable pub nameField : List ℕ → List ℕ
 nameField s = take nameColumns (drop nameStart s)

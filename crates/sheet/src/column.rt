@@ -5,8 +5,8 @@ ghost use mathlib.Core.List.{[], _∷_};
 ghost use mathlib.Core.Path.{_≡_};
 ghost use Prim.Native.Nat.{_+_, _*_, _<_, _≤_};
 ghost use lib.ListN.{length};
-ghost use Rattle.sheet.specs.Answers.{numberIs};
-ghost use Rattle.sheet.specs.Column.{digitsAfter, decimalIn, columnNumber, within, columnOf};
+ghost use Rattle.sheet.specs.Column.{digitsAfter, decimalIn, columnNumber, columnOf};
+ghost use Rattle.sheet.specs.Steps.{numberIs, within};
 
 // The number in a column, or that there is none in range.
 pub enum Number {

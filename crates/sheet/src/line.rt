@@ -8,9 +8,9 @@ use colour::Sample;
 ghost use mathlib.Core.Path.{_≡_};
 ghost use Prim.Native.Nat.{_+_, _≤_};
 ghost use lib.ListN.{length};
-ghost use Rattle.sheet.specs.Answers.{numberIs, lineAnswer};
-ghost use Rattle.sheet.specs.Column.{within};
-ghost use Rattle.sheet.specs.Line.{codeColumns, lineLength, nameLengthIn, codeColumn, lineNumbers, readLine};
+ghost use Rattle.sheet.specs.Answers.{lineAnswer};
+ghost use Rattle.sheet.specs.Line.{codeColumns, lineLength, codeColumn, lineNumbers, readLine};
+ghost use Rattle.sheet.specs.Steps.{numberIs, within, nameLengthIn};
 
 // The columns of a line, and where each starts.
 pub const TAG_COLUMNS: usize = 10;

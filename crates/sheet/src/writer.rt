@@ -20,8 +20,9 @@ ghost use Prim.Native.Nat.{_+_, _≤_};
 ghost use lib.ListN.{length, drop};
 ghost use Rattle.colour.specs.Question.{asks, firstNo};
 ghost use Rattle.sheet.specs.Answers.{written, writtenNumber};
-ghost use Rattle.sheet.specs.Column.{columnOf, putAt};
+ghost use Rattle.sheet.specs.Column.{columnOf};
 ghost use Rattle.sheet.specs.Line.{nameColumns, blankAt, lineLength, nameGood, numberColumns, lineBytes, writeLine};
+ghost use Rattle.sheet.specs.Steps.{putAt};
 
 // What became of a line to write: it stands where it was to be, or a refusal, by 4, 10 or 13.
 pub enum Written {

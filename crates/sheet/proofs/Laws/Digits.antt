@@ -1,5 +1,5 @@
 -- Digits read one after another, with a limit (document 01, "Sheets").
-use Prim.Native.Nat.{ℕ, suc, _+_, _-_, _*_, _≤_, _<_}
+use Prim.Native.Nat.{ℕ, _+_, _-_, _*_, _≤_, _<_}
 use mathlib.Core.Bool.{Bool, true, false, _&&_, and-false}
 use mathlib.Core.List.{List, [], _∷_}
 use mathlib.Core.Option.{Option, none, some}
@@ -8,7 +8,8 @@ use native.Mathlib.Omega.{arith}
 use borrow.Author.Tests.{le-leb, lt-leb, leb-true, leb-false, eq-eqb, ne-eqb}
 use lib.Dec.{leb}
 use lib.ListN.{length, drop, getD, drop-of-length-le}
-use Rattle.sheet.specs.Column.{digitsAfter, decimalIn, within}
+use Rattle.sheet.specs.Column.{digitsAfter, decimalIn}
+use Rattle.sheet.specs.Steps.{within}
 use Rattle.sheet.proofs.Laws.Text.{next-byte}
 
 pub within-none : (most : ℕ) → within most none ≡ none

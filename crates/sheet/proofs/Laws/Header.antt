@@ -11,8 +11,9 @@ use lib.ListN.{length, take, drop, getD}
 use Rattle.colour.specs.Question.{firstNo}
 use Rattle.sheet.specs.Answers.{headerAnswer}
 use Rattle.sheet.specs.declared.header.Header.the-variants as H
-use Rattle.sheet.specs.Column.{newline, columnNumber, present, within}
+use Rattle.sheet.specs.Column.{newline, columnNumber, present}
 use Rattle.sheet.specs.Line.{lineLength}
+use Rattle.sheet.specs.Steps.{within}
 use Rattle.sheet.specs.Sheet.{title, sameBytes, countColumns, lineStart, countIf, lineCount, readHeader, linePart}
 use Rattle.sheet.proofs.Laws.Digits.{within-some, within-yes}
 use Rattle.sheet.proofs.Laws.Numbers.{line-length-is, line-start-is}

@@ -1,29 +1,29 @@
 -- A line read by its columns, one test after another (document 01, "Sheets").
-use Prim.Native.Nat.{ℕ, _+_, _-_, _≤_, _<_, _^_}
+use Prim.Native.Nat.{ℕ, _-_, _≤_, _<_, _^_}
 use mathlib.Core.Bool.{Bool, true, false, _&&_, and-false, and-true, and-eq-true-iff}
-use mathlib.Core.List.{List, [], _∷_}
+use mathlib.Core.List.{List}
 use mathlib.Core.Option.{Option, none, some, Option·none-ne-some, Option·some-injective}
 use mathlib.Core.Path.{_≡_, refl, sym, ap, _∙_}
 use native.Mathlib.Omega.{arith}
-use borrow.Author.Tests.{le-leb, lt-leb, eq-eqb, ne-eqb, leb-true, leb-false, ltb-true, lt-ltb}
+use borrow.Author.Tests.{le-leb, lt-leb, eq-eqb, ne-eqb, leb-false, ltb-true, lt-ltb}
 use lib.Dec.{leb, eqb}
-use lib.ListN.{length, take, drop, getD}
-use Rattle.colour.specs.declared.Colour.{Colour}
+use lib.ListN.{length, drop, getD}
 use Rattle.colour.specs.declared.Sample.{Sample}
 use Rattle.colour.specs.Question.{firstNo}
 use Rattle.colour.proofs.Laws.Channels.{fit-codes}
-use Rattle.colour.specs.Colour.{Channel, Red, Green, Blue, codeIn, each, isCode, isTag, codesFit}
+use Rattle.colour.specs.Colour.{Channel, Red, Green, Blue, codeIn, isTag, codesFit}
 use Rattle.sheet.specs.declared.line.Line.{Line}
 use Rattle.sheet.specs.declared.line.Reading.{Reading}
 use Rattle.sheet.specs.declared.line.Reading.the-variants as R
 use Rattle.sheet.specs.Answers.{lineAnswer}
-use Rattle.sheet.specs.Column.{blank, newline, trimmed, columnNumber, within, present}
+use Rattle.sheet.specs.Column.{blank, newline, trimmed, present}
 use Rattle.sheet.proofs.Laws.Digits.{within-yes, within-some}
 use Rattle.sheet.proofs.Laws.Text.{leading-twice, trimmed-most}
 use Rattle.sheet.proofs.Laws.Names.{name-good}
 use Rattle.sheet.proofs.Laws.Ranges.{GoodRange, Ranged, from-holds}
-use Rattle.sheet.specs.Line.{tagColumns, redStart, greenStart, blueStart, blankAt, newlineAt, lineLength}
-use Rattle.sheet.specs.Line.{nameByte, leading, nameGood, nameFieldGood, lineFrom, nameColumns, nameLengthIn, nameField, lineFormed, codeColumn, lineNumbers, lineOf, readLine}
+use Rattle.sheet.specs.Line.{blankAt, newlineAt, lineLength}
+use Rattle.sheet.specs.Line.{leading, nameGood, nameFieldGood, lineFrom, nameColumns, nameField, lineFormed, lineNumbers, lineOf, readLine}
+use Rattle.sheet.specs.Steps.{within, nameLengthIn}
 
 -- A reading that says what a line says is the line's answer, with its number.
 pub answer-is : (r : Reading) (s : List ℕ) → lineAnswer r .line ≡ lineOf s → lineAnswer r ≡ readLine s

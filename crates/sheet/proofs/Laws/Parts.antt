@@ -1,13 +1,13 @@
 -- A text as its parts are written, and parts that were lent and came back.
-use Prim.Native.Nat.{ℕ, suc, _+_, _-_, _≤_, _<_}
+use Prim.Native.Nat.{ℕ, suc, _+_, _-_, _<_}
 use mathlib.Core.List.{List, [], _∷_, _++_, append-nil, append-assoc}
-use mathlib.Core.Path.{_≡_, refl, sym, ap, _∙_}
+use mathlib.Core.Path.{_≡_, sym, ap, _∙_}
 use native.Mathlib.Numerals.{add-one}
 use native.Mathlib.Omega.{arith}
 use borrow.Rule.Slice.PartMut.{putMid}
 use lib.ListN.{length, take, drop, getD, set, replicate, length-drop, drop-of-length-le}
 use lib.Seq.{take-all, take-suc, take-at, drop-at, drop-drop, set-at, set-split, length-take-le}
-use Rattle.sheet.specs.Column.{putAt}
+use Rattle.sheet.specs.Steps.{putAt}
 use Rattle.sheet.proofs.Laws.Text.{next-byte}
 
 -- A part to the end of a text is the text from there on.

@@ -1,7 +1,7 @@
 -- A line written column by column over the bytes lent (document 01, "Sheets").
-use Prim.Native.Nat.{ℕ, _+_, _-_, _≤_, _<_}
+use Prim.Native.Nat.{ℕ, _+_, _-_, _≤_}
 use mathlib.Core.Bool.{Bool, true, false}
-use mathlib.Core.List.{List, [], _∷_, _++_, append-nil, append-assoc}
+use mathlib.Core.List.{List, [], _∷_, _++_, append-assoc}
 use mathlib.Core.Path.{_≡_, refl, sym, ap, _∙_}
 use native.Mathlib.Omega.{arith}
 use borrow.Author.Tests.{eq-eqb, ne-eqb, leb-true}
@@ -10,7 +10,7 @@ use denote.Enum.Declared.{tagOf}
 use mathlib.Core.Logic.{⊎-elim}
 use lib.Dec.{leb}
 use borrow.Rule.Slice.PartMut.{putMid}
-use lib.ListN.{length, take, drop, set, replicate, length-append, length-drop, length-set, length-replicate}
+use lib.ListN.{length, take, drop, set, replicate, length-append, length-drop, length-replicate}
 use lib.Seq.{length-take-le, drop-at}
 use Rattle.colour.specs.declared.Sample.{Sample}
 use Rattle.colour.specs.Colour.{codesFit}
@@ -20,8 +20,9 @@ use Rattle.sheet.specs.declared.writer.Written.{Written}
 use Rattle.sheet.proofs.writer.Written.{the-type}
 use Rattle.sheet.specs.declared.writer.Written.the-variants as W
 use Rattle.sheet.specs.Answers.{written, writtenNumber}
-use Rattle.sheet.specs.Column.{blank, newline, columnOf, putAt}
+use Rattle.sheet.specs.Column.{blank, newline, columnOf}
 use Rattle.sheet.specs.Line.{tagColumns, codeColumns, nameColumns, lineLength, nameGood, numberColumns, lineBytes, writeNumber, writeLine}
+use Rattle.sheet.specs.Steps.{putAt}
 use Rattle.sheet.proofs.Laws.Numbers.{line-length-is}
 use Rattle.sheet.proofs.Laws.Parts.{put-next, set-next, part-put}
 use Rattle.sheet.proofs.Laws.Written.{column-length}

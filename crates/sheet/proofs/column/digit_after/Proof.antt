@@ -2,8 +2,7 @@
 use mathlib.Core.List.{[]}
 use mathlib.Core.Path.{sym, ap, _∙_}
 use native.Mathlib.Omega.{arith}
-use Rattle.sheet.specs.Answers.{numberIs}
-use Rattle.sheet.specs.Column.{within}
+use Rattle.sheet.specs.Steps.{numberIs, within}
 use Rattle.sheet.proofs.Laws.Digits.{within-none, within-yes, within-over, below-digits, above-digits, is-digit, not-digit, single}
 use borrow.Author.Needs.{needs}
 use Rattle.sheet.proofs.column.digit_after.Statement.{statement}

@@ -3,8 +3,8 @@ use Prim.Native.Nat.{_-_, _≤_}
 use mathlib.Core.Path.{_≡_, refl, sym, ap, _∙_}
 use native.Mathlib.Omega.{arith}
 use lib.ListN.{length, drop}
-use Rattle.sheet.specs.Answers.{numberIs}
-use Rattle.sheet.specs.Column.{digitsAfter, within}
+use Rattle.sheet.specs.Column.{digitsAfter}
+use Rattle.sheet.specs.Steps.{numberIs, within}
 use Rattle.sheet.proofs.Laws.Digits.{digits-stop, digits-more, digits-end}
 use borrow.Author.Needs.{needs}
 use Rattle.sheet.proofs.column.digits.Statement.{statement}

@@ -3,7 +3,7 @@ use mathlib.Core.Option.{some}
 use mathlib.Core.Path.{sym, ap, _∙_}
 use native.Mathlib.Omega.{arith}
 use borrow.Author.Tests.{not-true, not-false}
-use Rattle.sheet.specs.Answers.{numberIs}
+use Rattle.sheet.specs.Steps.{numberIs}
 use Rattle.sheet.specs.Sheet.{title}
 use Rattle.sheet.proofs.Laws.Digits.{within-some}
 use Rattle.sheet.proofs.Laws.Header.{good, not-good, not-titled, count-found, count-is}

@@ -1,10 +1,11 @@
 -- `line::code_at`: the columns handed on are the code's.
-use Prim.Native.Nat.{_+_, _-_, _≤_}
+use Prim.Native.Nat.{_+_, _-_}
 use mathlib.Core.Path.{_≡_, ap, _∙_}
 use native.Mathlib.Omega.{arith}
 use lib.ListN.{take, drop}
-use Rattle.sheet.specs.Column.{columnNumber, within}
+use Rattle.sheet.specs.Column.{columnNumber}
 use Rattle.sheet.specs.Line.{codeColumns, codeColumn}
+use Rattle.sheet.specs.Steps.{within}
 use borrow.Author.Needs.{needs}
 use Rattle.sheet.proofs.line.code_at.Statement.{statement}
 use Rattle.sheet.proofs.line.code_at.Tie as tie

@@ -1,10 +1,11 @@
 -- `line::numbers`: what the columns hold, by laws of Laws.Lines.
-use mathlib.Core.Path.{_≡_, sym, ap, _∙_}
+use mathlib.Core.Path.{sym, ap, _∙_}
 use native.Mathlib.Omega.{arith}
 use lib.Seq.{length-take-le}
 use Rattle.colour.specs.Colour.{Red, Green, Blue, codeIn}
-use Rattle.sheet.specs.Answers.{numberIs, lineAnswer}
+use Rattle.sheet.specs.Answers.{lineAnswer}
 use Rattle.sheet.specs.Line.{tagColumns, codeColumns, redStart, greenStart, blueStart, lineNumbers}
+use Rattle.sheet.specs.Steps.{numberIs}
 use Rattle.sheet.proofs.Laws.Digits.{within-some}
 use Rattle.sheet.proofs.Laws.Numbers.{line-length-is}
 use Rattle.sheet.proofs.Laws.Lines.{no-tag, no-code, all-numbers}

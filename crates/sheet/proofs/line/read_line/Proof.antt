@@ -1,8 +1,6 @@
 -- `line::read_line`: each return by the tests that led there, by laws of Laws.Lines.
 use Prim.Native.Nat.{_-_}
-use mathlib.Core.Path.{_≡_, sym, ap, _∙_}
-use native.Mathlib.Omega.{arith}
-use lib.ListN.{take, drop}
+use mathlib.Core.Path.{sym, _∙_}
 use Rattle.sheet.specs.declared.line.Reading.the-variants as R
 use Rattle.sheet.specs.Answers.{lineAnswer}
 use Rattle.sheet.specs.Column.{blank, newline}

@@ -1,8 +1,8 @@
 -- `text::blanks`: the blanks passed are those before the text.
 use Prim.Native.Nat.{_≤_, _-_}
-use mathlib.Core.Path.{_≡_, refl, sym, _∙_, ap}
+use mathlib.Core.Path.{_≡_, refl, _∙_}
 use native.Mathlib.Omega.{arith}
-use lib.ListN.{length, drop, length-drop, drop-of-length-le}
+use lib.ListN.{length, drop}
 use Rattle.sheet.specs.Column.{blank, trimmed}
 use Rattle.sheet.proofs.Laws.Text.{trimmed-blank, trimmed-stops, trimmed-end, blanks-first}
 use borrow.Author.Needs.{needs}

@@ -1,6 +1,5 @@
 -- `writer::put_number_at`: the part that was lent comes back written.
 use Prim.Native.Nat.{_+_, _-_}
-use native.Mathlib.Omega.{arith}
 use borrow.Rule.Slice.PartMut.{same-len-mid}
 use Rattle.sheet.proofs.Laws.Writing.{column-put}
 use borrow.Author.Needs.{needs}
