@@ -1,19 +1,23 @@
 /* hubeltxa: colour samples. The calls of the static library libhubeltxa.a (x86-64 Linux).
  *
  * A code is a whole number from 0 to 65,535, and a colour is red, green and blue codes. A panel
- * colour is three 32-bit floats, red, green and blue.
+ * colour is three 32-bit floats, red, green and blue. A sample is a tag, any 32-bit number, and a
+ * colour. A sheet is a text of samples, described below.
  *
- * Every call returns a number: 0 says that it accepted what it was given, any other why it did not.
- * All else comes back through pointers. Each pointer must point to an object of its type that the
- * call may write (never null), and no two may point to the same object or overlap. The library does
- * not test this.
+ * A call that can refuse returns a number: 0 says that it accepted what it was given, any other why
+ * it did not. hbx_name cannot refuse and returns nothing. All else comes back through pointers.
+ *
+ * Each pointer must point to an object of its type, or, where a length follows it, to that many
+ * bytes. It must never be null, not even where the length is 0. What a call may write (all that is
+ * not const) must not overlap anything else that the call is given. The library does not test this.
  *
  * The library has no state, allocates nothing and keeps no pointer. Threads may call it at the same
- * time, each with objects of its own behind the pointers.
+ * time, provided that none writes what another reads or writes.
  */
 #ifndef HUBELTXA_H
 #define HUBELTXA_H
 
+#include <stddef.h>
 #include <stdint.h>
 
 #ifdef __cplusplus
@@ -38,6 +42,48 @@ uint32_t hbx_codes(float red, float green, float blue,
  */
 uint32_t hbx_floats(uint32_t red, uint32_t green, uint32_t blue,
                     float *red_out, float *green_out, float *blue_out);
+
+/* A sheet is a header of 15 bytes, then lines of 62 bytes each:
+ *
+ *     header   `SWATCHES`; the number of lines in 6 columns; a newline
+ *     line     tag in 10 columns; red, green and blue in 6 columns each; a blank;
+ *              the reel name at the left of 32 columns, blanks after it; a newline
+ *
+ * A number is decimal, at the right of its columns, with blanks before it and no leading zero but
+ * in 0 itself. A reel name is 1 to 32 bytes, each from 33 to 126. A blank is byte 32, a newline
+ * byte 10. Line k, counted from 0, starts at byte 15 + 62 * k. For example (blanks at the end of a
+ * line do not show):
+ *
+ *     SWATCHES     2
+ *              7     0     0     0 A001
+ *     4294967295 65535 65535 65535 A002
+ *
+ * A line is good when it is so formed, its tag is at most 4,294,967,295 and its codes are at most
+ * 65,535. A header is good when it is so formed and the sheet is exactly 15 + 62 * count bytes, for
+ * the count that it says. A sheet may have no lines.
+ */
+#define HBX_HEADER_LENGTH 15
+#define HBX_LINE_LENGTH 62
+
+/* Writes one line of a sheet over the first 62 of the line_len bytes at line. Bytes after the 62nd
+ * stay as they were.
+ *
+ * Returns 0 where the line is written. Otherwise nothing is written, and the first of these that is
+ * so gives the number:
+ *    4  a code is over 65,535
+ *   10  the name is not good: not 1 to 32 bytes, or a byte not from 33 to 126
+ *   13  line_len is under 62
+ */
+uint32_t hbx_line(uint32_t tag, uint32_t red, uint32_t green, uint32_t blue,
+                  const uint8_t *name, size_t name_len, uint8_t *line, size_t line_len);
+
+/* Looks up the reel name in the first line with the tag. The name is a part of the caller's own
+ * sheet: the *length bytes from sheet + *start on. No null byte follows it.
+ *
+ * Both get 0 where no line has the tag, and where the header or any line is not good, also
+ * one after the line with the tag. Where the name is found, *length is 1 to 32.
+ */
+void hbx_name(const uint8_t *sheet, size_t sheet_len, uint32_t tag, size_t *start, size_t *length);
 
 #ifdef __cplusplus
 }
