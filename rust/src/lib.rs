@@ -1,7 +1,16 @@
 //! Colour samples: a safe wrapper over the proved static library `libhubeltxa.a`.
 //!
 //! A *code* is a whole number from 0 to 65,535, and a colour is red, green and blue codes. A *panel
-//! colour* is three 32-bit floats, red, green and blue, each from 0 up to but not including 1.
+//! colour* is three 32-bit floats, red, green and blue, each from 0 up to but not including 1. A
+//! *sample* is a tag, any 32-bit number, and a colour.
+//!
+//! A *sheet* is a text of samples, each with a *reel name*: a header of 15 bytes, which are
+//! `SWATCHES`, the number of lines in 6 columns and a newline; then lines of 62 bytes, which are the
+//! tag in 10 columns, red, green and blue in 6 each, a blank, the reel name at the left of 32 columns
+//! and a newline. A number is decimal, at the right of its columns, with blanks before it and no
+//! leading zero but in 0 itself. A name is 1 to 32 bytes, each from 33 to 126. A line is good when it
+//! is so formed and its tag and codes are in range; a header is good when it is so formed and the
+//! sheet is exactly as long as its count says.
 //!
 //! A call that is refused gives `Err` with the number that says why. The functions have no state and
 //! may be called from any thread.
@@ -10,6 +19,11 @@
 //! let codes = hubeltxa::codes([0.25, 0.5, 0.75])?;
 //! assert_eq!(codes, [16_384, 32_768, 49_152]);
 //! assert_eq!(hubeltxa::floats(codes)?, [0.25, 0.5, 0.75]);
+//!
+//! let mut sheet = b"SWATCHES     1\n".to_vec();
+//! sheet.resize(hubeltxa::HEADER_LENGTH + hubeltxa::LINE_LENGTH, 0);
+//! hubeltxa::write_line(7, codes, b"A001", &mut sheet[hubeltxa::HEADER_LENGTH..])?;
+//! assert_eq!(hubeltxa::name(&sheet, 7), b"A001");
 //! # Ok::<(), u32>(())
 //! ```
 //!
@@ -43,6 +57,30 @@ pub mod raw {
             green_out: *mut f32,
             blue_out: *mut f32,
         ) -> u32;
+
+        /// Writes a line of a sheet; see [`write_line`](crate::write_line).
+        ///
+        /// # Safety
+        /// `name` must be good for reads of `name_len` bytes and `line` for writes of `line_len`; the
+        /// two may not overlap, and neither may be null, not even where its length is 0.
+        pub fn hbx_line(
+            tag: u32,
+            red: u32,
+            green: u32,
+            blue: u32,
+            name: *const u8,
+            name_len: usize,
+            line: *mut u8,
+            line_len: usize,
+        ) -> u32;
+
+        /// Looks up a reel name: where in the sheet it starts, and its length, both 0 where there is
+        /// none; see [`name`](crate::name).
+        ///
+        /// # Safety
+        /// `sheet` must be good for reads of `sheet_len` bytes, and not null, not even where that is
+        /// 0. The other pointers must be good for writes. No two of the three may overlap.
+        pub fn hbx_name(sheet: *const u8, sheet_len: usize, tag: u32, start: *mut usize, length: *mut usize);
     }
 }
 
@@ -86,4 +124,60 @@ pub fn floats(codes: [u32; 3]) -> Result<[f32; 3], u32> {
         0 => Ok([red, green, blue]),
         _ => Err(number),
     }
+}
+
+/// The bytes of a sheet's header.
+pub const HEADER_LENGTH: usize = 15;
+
+/// The bytes of a sheet's line.
+pub const LINE_LENGTH: usize = 62;
+
+/// Writes one line of a sheet, from tag, codes and reel name, over the first 62 bytes of `line`. The
+/// bytes after them stay as they were.
+///
+/// # Errors
+/// The first of these that is so; nothing is written then:
+/// - 4 where a code is over 65,535;
+/// - 10 where the name is not 1 to 32 bytes, each from 33 to 126;
+/// - 13 where `line` is shorter than 62 bytes.
+///
+/// ```
+/// let mut line = [b'.'; 64];
+/// hubeltxa::write_line(7, [0, 32_768, 65_535], b"A001", &mut line)?;
+/// assert_eq!(&line, b"         7     0 32768 65535 A001                            \n..");
+///
+/// assert_eq!(hubeltxa::write_line(7, [0, 0, 65_536], b"", &mut []), Err(4));
+/// assert_eq!(hubeltxa::write_line(7, [0, 0, 65_535], b"", &mut []), Err(10));
+/// assert_eq!(hubeltxa::write_line(7, [0, 0, 65_535], b"A001", &mut []), Err(13));
+/// # Ok::<(), u32>(())
+/// ```
+pub fn write_line(tag: u32, codes: [u32; 3], name: &[u8], line: &mut [u8]) -> Result<(), u32> {
+    let [red, green, blue] = codes;
+    // SAFETY: each pointer and length is a slice's; the one that is written is borrowed alone.
+    let number =
+        unsafe { raw::hbx_line(tag, red, green, blue, name.as_ptr(), name.len(), line.as_mut_ptr(), line.len()) };
+    match number {
+        0 => Ok(()),
+        _ => Err(number),
+    }
+}
+
+/// The reel name in the first line of a sheet with this tag: a part of the sheet itself. Empty where
+/// no line has the tag, and where the header or any line is not good.
+///
+/// ```
+/// let mut sheet = *b"SWATCHES     2\n\
+///                    \x20        7     0     0     0 A001                            \n\
+///                    \x20        8 65535 65535 65535 A002                            \n";
+/// assert_eq!(hubeltxa::name(&sheet, 8), b"A002");
+/// assert_eq!(hubeltxa::name(&sheet, 9), b"");
+///
+/// sheet[75] = b'!'; // after the name in line 0
+/// assert_eq!(hubeltxa::name(&sheet, 8), b"");
+/// ```
+pub fn name(sheet: &[u8], tag: u32) -> &[u8] {
+    let [mut start, mut length] = [0; 2];
+    // SAFETY: the first pointer and length are a slice's; the other pointers are to two locals.
+    unsafe { raw::hbx_name(sheet.as_ptr(), sheet.len(), tag, &mut start, &mut length) };
+    &sheet[start..start + length]
 }
