@@ -1,0 +1,616 @@
+//! Lines written and names looked up, compared with the straight scan call by call.
+//!
+//! `cargo test --release` takes a few seconds.
+
+#[path = "../../oracle/straight_scan.rs"]
+#[allow(dead_code)]
+#[rustfmt::skip]
+mod straight_scan;
+
+use hubeltxa::{raw, HEADER_LENGTH as HEADER, LINE_LENGTH as LINE};
+use std::ops::Range;
+use straight_scan::Sample;
+
+/// A call with its arguments. A line is written over a buffer of `lent` bytes.
+#[derive(Clone, Copy)]
+enum Call<'a> {
+    Line { tag: u32, codes: [u32; 3], name: &'a [u8], lent: usize },
+    Name { sheet: &'a [u8], tag: u32 },
+}
+
+impl std::fmt::Debug for Call<'_> {
+    fn fmt(&self, f: &mut std::fmt::Formatter) -> std::fmt::Result {
+        match self {
+            Call::Line { tag, codes, name, lent } => {
+                write!(f, "{tag} {codes:?} \"{}\" over {lent} bytes", name.escape_ascii())
+            }
+            Call::Name { sheet, tag } => write!(f, "{tag} in \"{}\"", sheet.escape_ascii()),
+        }
+    }
+}
+
+/// What a call gives: its number and the whole buffer as left, or where in the sheet the name stands.
+#[derive(Debug, PartialEq, Eq)]
+enum Answer {
+    Line(u32, Vec<u8>),
+    Name(Range<usize>),
+}
+
+/// A good line, to stand around what is lent: reading on would find it.
+const GUARD: &[u8; LINE] = b"         7     1    22   333 GUARD                           \n";
+
+/// Bytes to lend, between two guards.
+struct Lent(Vec<u8>);
+
+impl Lent {
+    fn new(bytes: &[u8]) -> Self {
+        Lent([GUARD, bytes, GUARD].concat())
+    }
+
+    fn within(&mut self) -> &mut [u8] {
+        let end = self.0.len() - LINE;
+        &mut self.0[LINE..end]
+    }
+
+    /// The bytes as left, where the guards are whole.
+    fn left(&mut self) -> Option<&[u8]> {
+        let whole = self.0.starts_with(GUARD) && self.0.ends_with(GUARD);
+        whole.then(|| &*self.within())
+    }
+}
+
+/// A buffer for a line. It holds no byte that a line could have, so every byte that is written shows.
+fn buffer(lent: usize) -> Vec<u8> {
+    (0..lent).map(|i| 128 + (i % 128) as u8).collect()
+}
+
+/// The C function, on guarded bytes, and on words that hold something else and have neighbours.
+fn library(call: Call) -> Answer {
+    match call {
+        Call::Line { tag, codes: [red, green, blue], name, lent } => {
+            let (mut text, mut line) = (Lent::new(name), Lent::new(&buffer(lent)));
+            let (n, l) = (text.within(), line.within());
+            let number = unsafe { raw::hbx_line(tag, red, green, blue, n.as_ptr(), n.len(), l.as_mut_ptr(), l.len()) };
+            assert_eq!(text.left(), Some(name), "{call:?} changed the name or what is beside it");
+            let left = line.left().unwrap_or_else(|| panic!("{call:?} wrote elsewhere"));
+            Answer::Line(number, left.to_vec())
+        }
+        Call::Name { sheet, tag } => {
+            const HELD: usize = 0xA5A5_A5A5_A5A5_A5A5;
+            let mut words = [HELD; 5];
+            let [n0, start, n1, length, n2] = &mut words;
+            let mut text = Lent::new(sheet);
+            let s = text.within();
+            unsafe { raw::hbx_name(s.as_ptr(), s.len(), tag, start, length) };
+            assert_eq!([*n0, *n1, *n2], [HELD; 3], "{call:?} wrote elsewhere");
+            assert!(text.left() == Some(sheet), "{call:?} changed the sheet or what is beside it");
+            assert!(*length > 0 || *start == 0, "{call:?} gives an empty part at {start}");
+            Answer::Name(*start..*start + *length)
+        }
+    }
+}
+
+fn wrapper(call: Call) -> Answer {
+    match call {
+        Call::Line { tag, codes, name, lent } => {
+            let mut line = buffer(lent);
+            let result = hubeltxa::write_line(tag, codes, name, &mut line);
+            Answer::Line(result.err().unwrap_or(0), line)
+        }
+        Call::Name { sheet, tag } => {
+            let found = hubeltxa::name(sheet, tag);
+            // Where it stands in the caller's own slice.
+            let start = (found.as_ptr() as usize).wrapping_sub(sheet.as_ptr() as usize);
+            Answer::Name(start..start.wrapping_add(found.len()))
+        }
+    }
+}
+
+fn oracle(call: Call) -> Answer {
+    match call {
+        Call::Line { tag, codes, name, lent } => {
+            let mut line = buffer(lent);
+            Answer::Line(straight_scan::write_line(tag, codes, name, &mut line), line)
+        }
+        Call::Name { sheet, tag } => Answer::Name(straight_scan::name_of(sheet, tag)),
+    }
+}
+
+/// The one comparison: every input goes through it. Gives the answer, for tests that look at it.
+fn compare(call: Call) -> Answer {
+    let expected = oracle(call);
+    assert_eq!(library(call), expected, "the library on {call:?}");
+    assert_eq!(wrapper(call), expected, "the wrapper on {call:?}");
+    expected
+}
+
+/// Writes a line, and gives the number and the buffer.
+fn write(tag: u32, codes: [u32; 3], name: &[u8], lent: usize) -> (u32, Vec<u8>) {
+    match compare(Call::Line { tag, codes, name, lent }) {
+        Answer::Line(number, line) => (number, line),
+        Answer::Name(_) => unreachable!(),
+    }
+}
+
+/// Looks a name up, and gives it.
+fn look_up(sheet: &[u8], tag: u32) -> &[u8] {
+    match compare(Call::Name { sheet, tag }) {
+        Answer::Name(range) => &sheet[range],
+        Answer::Line(..) => unreachable!(),
+    }
+}
+
+/// xorshift64.
+fn random(state: &mut u64) -> u64 {
+    *state ^= *state << 13;
+    *state ^= *state >> 7;
+    *state ^= *state << 17;
+    *state
+}
+
+/// A number below n.
+fn below(n: usize, state: &mut u64) -> usize {
+    (random(state) >> 16) as usize % n
+}
+
+fn any_of<T: Copy>(list: &[T], state: &mut u64) -> T {
+    list[below(list.len(), state)]
+}
+
+/// 0, each power of ten and one less, each power of two and one less and one more, the greatest.
+fn edges() -> Vec<u32> {
+    let tens = (0..10).map(|k| 10_u32.pow(k)).flat_map(|p| [p - 1, p]);
+    let twos = (0..32).map(|k| 1 << k).flat_map(|p: u32| [p - 1, p, p + 1]);
+    tens.chain(twos).chain([u32::MAX - 1, u32::MAX]).collect()
+}
+
+/// A tag, at an edge or anywhere; half of them small, so that some are equal.
+fn any_tag(state: &mut u64) -> u32 {
+    match random(state) >> 62 {
+        0 => any_of(&edges(), state),
+        1 => random(state) as u32,
+        _ => below(8, state) as u32,
+    }
+}
+
+fn any_code(state: &mut u64) -> u32 {
+    let codes = [0, 9, 10, 99, 100, 999, 1_000, 9_999, 10_000, 65_534, 65_535];
+    match random(state) >> 63 {
+        0 => any_of(&codes, state),
+        _ => below(65_536, state) as u32,
+    }
+}
+
+/// A good name.
+fn any_name(state: &mut u64) -> Vec<u8> {
+    let length = any_of(&[1, 2, 4, 4, 4, 9, 31, 32], state);
+    (0..length).map(|_| 33 + below(94, state) as u8).collect()
+}
+
+/// A line as text, whatever it is given.
+fn line_of(tag: &str, codes: [&str; 3], name: &str) -> Vec<u8> {
+    let [red, green, blue] = codes;
+    format!("{tag:>10}{red:>6}{green:>6}{blue:>6} {name:<32}\n").into_bytes()
+}
+
+fn sheet_of(count: &str, lines: &[Vec<u8>]) -> Vec<u8> {
+    [format!("SWATCHES{count:>6}\n").as_bytes(), &lines.concat()].concat()
+}
+
+/// A good sheet of these lines.
+fn good_sheet(lines: &[Vec<u8>]) -> Vec<u8> {
+    sheet_of(&lines.len().to_string(), lines)
+}
+
+fn any_line(state: &mut u64) -> Vec<u8> {
+    let codes = [0; 3].map(|_: u32| any_code(state));
+    write(any_tag(state), codes, &any_name(state), LINE).1
+}
+
+fn any_lines(count: usize, state: &mut u64) -> Vec<Vec<u8>> {
+    (0..count).map(|_| any_line(state)).collect()
+}
+
+/// Three lines with short and long numbers and names.
+fn plain_lines() -> Vec<Vec<u8>> {
+    vec![
+        line_of("7", ["0", "10", "65535"], "A001"),
+        line_of("4294967295", ["65535", "999", "1000"], "!2345678901234567890123456789012"),
+        line_of("0", ["9", "65535", "0"], "~"),
+    ]
+}
+
+/// Good sheets, to be altered: of two lines, of three, and of two with equal tags.
+fn sheets() -> [Vec<u8>; 3] {
+    let same = [line_of("17", ["1", "2", "3"], "one"), line_of("17", ["1", "2", "3"], "other")];
+    [good_sheet(&plain_lines()[..2]), good_sheet(&plain_lines()), good_sheet(&same)]
+}
+
+fn lines_in(sheet: &[u8]) -> impl Iterator<Item = &[u8]> {
+    sheet.get(HEADER..).unwrap_or_default().chunks_exact(LINE)
+}
+
+/// The tags that a sheet's lines have, good or not.
+fn tags_in(sheet: &[u8]) -> Vec<u32> {
+    lines_in(sheet).filter_map(|l| straight_scan::column(&l[..10])?.try_into().ok()).collect()
+}
+
+/// Looks up every tag of two sheets in the second, and one tag of neither.
+fn look_up_all(before: &[u8], sheet: &[u8]) {
+    let mut tags = [tags_in(before), tags_in(sheet)].concat();
+    tags.sort_unstable();
+    tags.dedup();
+    tags.extend((0..).find(|tag| !tags.contains(tag)));
+    tags.into_iter().for_each(|tag| _ = look_up(sheet, tag));
+}
+
+/// The sheet with other bytes from a place on, looked up.
+fn look_up_with(sheet: &[u8], at: usize, bytes: &[u8]) {
+    let mut altered = sheet.to_vec();
+    altered[at..at + bytes.len()].copy_from_slice(bytes);
+    look_up_all(sheet, &altered);
+}
+
+/// Every text of so many bytes out of these.
+fn texts(bytes: &[u8], width: u32) -> impl Iterator<Item = Vec<u8>> + '_ {
+    let digit = move |n: usize, k| bytes[n / bytes.len().pow(k) % bytes.len()];
+    (0..bytes.len().pow(width)).map(move |n| (0..width).rev().map(|k| digit(n, k)).collect())
+}
+
+/// A text in a column, at its right, at its left and between.
+fn columns(text: &str, width: usize) -> Vec<Vec<u8>> {
+    let placed = [format!("{text:>width$}"), format!("{text:<width$}"), format!("{text:^width$}")];
+    placed.map(String::into_bytes).into_iter().filter(|c| c.len() == width).collect()
+}
+
+/// Where the columns of the count and of line 0 start, and how many they are.
+const COUNT: (usize, usize) = (8, 6);
+const TAG: (usize, usize) = (HEADER, 10);
+const CODES: [(usize, usize); 3] = [(HEADER + 10, 6), (HEADER + 16, 6), (HEADER + 22, 6)];
+const NAME: (usize, usize) = (HEADER + 29, 32);
+
+// Writing.
+
+#[test]
+fn names_written() {
+    let name: Vec<u8> = (0..1_000).map(|i| 33 + (i * 7 % 94) as u8).collect();
+    for length in (0..=130).chain([255, 256, 257, 1_000]) {
+        let (number, _) = write(7, [1, 2, 3], &name[..length], 100);
+        assert_eq!(number, if (1..=32).contains(&length) { 0 } else { 10 });
+    }
+    for length in [1, 2, 3, 16, 31, 32, 33] {
+        for place in 0..length {
+            for byte in 0..=255 {
+                let mut altered = name[..length].to_vec();
+                altered[place] = byte;
+                let (number, _) = write(7, [1, 2, 3], &altered, LINE);
+                assert_eq!(number == 0, length < 33 && (33..=126).contains(&byte));
+            }
+        }
+    }
+}
+
+#[test]
+fn tags_written() {
+    for tag in edges() {
+        for lent in [LINE, 100] {
+            let (number, line) = write(tag, [0, 10, 65_535], b"A001", lent);
+            assert_eq!((number, &line[..10]), (0, format!("{tag:>10}").as_bytes()));
+        }
+    }
+}
+
+#[test]
+fn codes_written() {
+    for code in 0..=65_600 {
+        for channel in 0..3 {
+            let mut codes = [1, 20_000, 65_535];
+            codes[channel] = code;
+            assert_eq!(write(7, codes, b"A001", LINE).0, if code > 65_535 { 4 } else { 0 });
+        }
+    }
+    for red in edges() {
+        for green in [0, 9, 65_535, 65_536, u32::MAX] {
+            edges().into_iter().for_each(|blue| _ = write(7, [red, green, blue], b"A001", LINE));
+        }
+    }
+}
+
+#[test]
+fn buffers_written() {
+    for lent in (0..=200).chain([1_000, 65_536]) {
+        let (number, line) = write(u32::MAX, [65_535, 0, 10], b"A001", lent);
+        assert_eq!(number, if lent < 62 { 13 } else { 0 });
+        let from = if number == 0 { LINE } else { 0 };
+        assert_eq!(line[from..], buffer(lent)[from..]);
+    }
+}
+
+/// Any of the three may be refused, alone and with others: 4 comes before 10, and 10 before 13.
+#[test]
+fn refusals_in_order() {
+    let codes = [0, 65_535, 65_536, u32::MAX];
+    let long = [b'A'; 40];
+    let names: [&[u8]; 8] = [b"A001", &long[..32], b"", &long[..33], &long, b"A 1", b"\x7F", b"A001\n"];
+    for (i, name) in names.into_iter().enumerate() {
+        for lent in [0, 1, 28, 61, 62, 63, 100] {
+            for n in 0..64 {
+                let codes = [codes[n % 4], codes[n / 4 % 4], codes[n / 16]];
+                let asked = [(codes.iter().any(|&c| c > 65_535), 4), (i > 1, 10), (lent < 62, 13)];
+                let first = asked.into_iter().find_map(|(no, number)| no.then_some(number));
+                let (number, line) = write(7, codes, name, lent);
+                assert_eq!(number, first.unwrap_or(0));
+                assert!(number == 0 || line == buffer(lent));
+            }
+        }
+    }
+}
+
+/// Random lines, most of them good.
+#[test]
+fn lines_written() {
+    let mut state = 1;
+    for _ in 0..200_000 {
+        let s = &mut state;
+        let mut codes = [0; 3].map(|_: u32| any_code(s));
+        let mut name = any_name(s);
+        match below(16, s) {
+            0 => codes[below(3, s)] = any_tag(s),
+            1 => name[0] = below(256, s) as u8,
+            2 => name.push(b'!'),
+            _ => {}
+        }
+        write(any_tag(s), codes, &name, any_of(&[61, 62, 62, 62, 63, 124], s));
+    }
+}
+
+// Looking up.
+
+/// Names in good sheets, by each tag and by tags that are not there; the first of equal tags counts.
+#[test]
+fn good_sheets() {
+    for count in [0, 1, 2, 3, 7, 9, 10, 11, 99, 100, 101] {
+        let lines: Vec<_> = (0..count).map(|k| line_of(&(k % 60).to_string(), ["0"; 3], &format!("N{k}"))).collect();
+        let sheet = good_sheet(&lines);
+        for tag in 0..count.min(60) {
+            assert_eq!(look_up(&sheet, tag), format!("N{tag}").as_bytes());
+        }
+        for tag in [count.min(60), 60, 99, 1_000, u32::MAX] {
+            assert_eq!(look_up(&sheet, tag), b"");
+        }
+    }
+    let mut state = 2;
+    for round in 0..3_000 {
+        let sheet = good_sheet(&any_lines(round % 12, &mut state));
+        look_up_all(&[], &sheet);
+        assert!(tags_in(&sheet).into_iter().all(|tag| !look_up(&sheet, tag).is_empty()));
+    }
+}
+
+/// Counts of three to six digits, up to the greatest, and one line more than that.
+#[test]
+fn many_lines() {
+    for count in [999, 1_000, 9_999, 10_000, 99_999, 100_000, 999_999] {
+        let mut sheet = sheet_of(&count.to_string(), &[]);
+        (0..count).for_each(|k| sheet.extend(line_of(&k.to_string(), ["0"; 3], "A001")));
+        assert_eq!(look_up(&sheet, count - 1), b"A001");
+        sheet.extend(GUARD);
+        assert_eq!(look_up(&sheet, 0), b"");
+        sheet.truncate(HEADER + LINE * count as usize - 1);
+        sheet.push(b' ');
+        assert_eq!(look_up(&sheet, 0), b"");
+    }
+}
+
+#[test]
+fn every_byte_changed() {
+    for sheet in sheets() {
+        for at in 0..sheet.len() {
+            (0..=255).for_each(|byte| look_up_with(&sheet, at, &[byte]));
+        }
+    }
+}
+
+#[test]
+fn cut_and_extended() {
+    for sheet in sheets() {
+        for at in 0..=sheet.len() {
+            look_up_all(&sheet, &sheet[..at]);
+            look_up_all(&sheet, &sheet[at..]);
+            for byte in [b' ', b'\n', b'0', b'7', b'A', 0, 255] {
+                look_up_all(&sheet, &[&sheet[..at], &[byte], &sheet[at..]].concat());
+            }
+            if at < sheet.len() {
+                look_up_all(&sheet, &[&sheet[..at], &sheet[at + 1..]].concat());
+            }
+        }
+        for byte in 0..=255 {
+            look_up_all(&sheet, &[&sheet[..], &[byte]].concat());
+            look_up_all(&sheet, &[&[byte], &sheet[..]].concat());
+        }
+        for at in [0, 8, 14, HEADER, HEADER + LINE, sheet.len()] {
+            look_up_all(&sheet, &[&sheet[..at], GUARD, &sheet[at..]].concat());
+        }
+    }
+}
+
+/// A line removed, doubled or put in, with every count from 0 to one more than there then are.
+#[test]
+fn other_lines() {
+    let lines = plain_lines();
+    let before = good_sheet(&lines);
+    let mut lists = vec![vec![], lines.clone()];
+    for k in 0..=lines.len() {
+        let (head, tail) = lines.split_at(k);
+        lists.push([head, &[GUARD.to_vec()], tail].concat());
+        if k < lines.len() {
+            lists.push([head, &tail[1..]].concat());
+            lists.push([head, &lines[k..=k], tail].concat());
+        }
+    }
+    for list in lists {
+        for count in 0..=list.len() + 1 {
+            look_up_all(&before, &sheet_of(&count.to_string(), &list));
+        }
+    }
+}
+
+/// Texts where a number should be: in the count and in each number of a line.
+#[test]
+fn numbers_in_columns() {
+    let long = [4_294_967_290_u64..4_294_967_310, 9_999_999_990..10_000_000_000];
+    let short = [0_u64..12, 65_530..65_540, 99_990..100_010, 655_350..655_370, 999_990..1_000_000];
+    let numbers = long.into_iter().chain(short).flatten().map(|n| n.to_string());
+    let others = "|00|000000|0000000000|07|0007|000007|0000000007|065535|7 7|7  7|1 2 3|-7|+7|-0|+0|- 7|7-|7.0|7.|.7\
+        |0x7|7e1|1,000|1_000|7\t|\t7|7\n|\n7|\x007|7\0|O|l|/|:|٧|²|65535 0|0 65535|4294967295 | 4294967295";
+    let texts: Vec<String> = numbers.chain(others.split('|').map(String::from)).collect();
+    let mut state = 3;
+    let seven = good_sheet(&[plain_lines(), any_lines(4, &mut state)].concat());
+    for sheet in sheets().into_iter().chain([seven]) {
+        let last = sheet.len() - HEADER - LINE;
+        for (at, width) in [COUNT, TAG, CODES[0], CODES[1], CODES[2]] {
+            for column in texts.iter().flat_map(|text| columns(text, width)) {
+                look_up_with(&sheet, at, &column);
+                if at >= HEADER {
+                    look_up_with(&sheet, at + last, &column);
+                }
+            }
+        }
+    }
+    for count in texts.iter().flat_map(|text| columns(text, COUNT.1)) {
+        look_up_with(&good_sheet(&[]), COUNT.0, &count);
+    }
+}
+
+/// Every text of a few bytes, in each place of a number.
+#[test]
+fn texts_in_columns() {
+    let sheet = &sheets()[0];
+    texts(b" 02-", 6).for_each(|count| look_up_with(sheet, COUNT.0, &count));
+    texts(b" 07", 10).for_each(|tag| look_up_with(sheet, TAG.0, &tag));
+    for (at, _) in CODES {
+        texts(b" 0356", 6).for_each(|code| look_up_with(sheet, at, &code));
+    }
+}
+
+/// Names of every length, with every byte in turn at every place of the 32 columns: blanks within,
+/// and something after the name.
+#[test]
+fn names_in_columns() {
+    let sheet = &sheets()[0];
+    for length in 0..=NAME.1 {
+        let name = format!("{:<32}", "N".repeat(length)).into_bytes();
+        for place in 0..NAME.1 {
+            for byte in 0..=255 {
+                let mut altered = name.clone();
+                altered[place] = byte;
+                let mut sheet = sheet.clone();
+                sheet[NAME.0..][..NAME.1].copy_from_slice(&altered);
+                look_up(&sheet, 7);
+            }
+        }
+    }
+}
+
+#[test]
+fn random_bytes() {
+    let mut state = 4;
+    for _ in 0..100_000 {
+        let s = &mut state;
+        // Now of any bytes, now of those that sheets have; and the longer ones of whole lines.
+        let alphabet: &[u8] = any_of(&[&b" \n0123456789SWATCHES!~"[..], b" 0", b" 1\nA"], s);
+        let length = if below(2, s) == 0 { below(200, s) } else { HEADER + LINE * below(4, s) };
+        let wild = below(3, s) == 0;
+        let byte = |s: &mut u64| if wild { random(s) as u8 } else { any_of(alphabet, s) };
+        let mut sheet: Vec<u8> = (0..length).map(|_| byte(s)).collect();
+        if below(2, s) == 0 {
+            recount(&mut sheet);
+        }
+        look_up_all(&[], &sheet);
+    }
+}
+
+/// A digit for a digit, a name byte for another; what else stands there stays.
+fn alike(byte: u8, state: &mut u64) -> u8 {
+    match byte {
+        b'0'..=b'9' => b'0' + below(10, state) as u8,
+        33..=126 => 33 + below(94, state) as u8,
+        _ => byte,
+    }
+}
+
+/// The number of whole lines after a header's bytes.
+fn room(sheet: &[u8]) -> usize {
+    sheet.len().saturating_sub(HEADER) / LINE
+}
+
+/// A header put first that says how many lines there are.
+fn recount(sheet: &mut [u8]) {
+    if sheet.len() >= HEADER {
+        let header = sheet_of(&room(sheet).to_string(), &[]);
+        sheet[..HEADER].copy_from_slice(&header);
+    }
+}
+
+/// One edit of a sheet: a byte, two bytes or a line.
+fn edit(sheet: &mut Vec<u8>, state: &mut u64) {
+    if sheet.is_empty() {
+        return;
+    }
+    let [at, other] = [0; 2].map(|_: usize| below(sheet.len(), state));
+    let lines = room(sheet);
+    let start = HEADER + LINE * below(lines.max(1), state);
+    match below(10, state) {
+        0 => sheet[at] = random(state) as u8,
+        1 => _ = sheet.remove(at),
+        2 => sheet.insert(at, any_of(b" \n0A", state)),
+        3 => sheet.swap(at, other),
+        4 if lines > 0 => _ = sheet.drain(start..start + LINE),
+        5 if lines > 0 => sheet.extend_from_within(start..start + LINE),
+        6 if lines > 0 => sheet.copy_within(start..start + LINE, HEADER),
+        _ => sheet[at] = alike(sheet[at], state),
+    }
+}
+
+#[test]
+fn random_edits() {
+    let mut state = 5;
+    let mut good = 0;
+    for _ in 0..100_000 {
+        let s = &mut state;
+        let before = good_sheet(&any_lines(1 + below(5, s), s));
+        let mut sheet = before.clone();
+        (0..=below(3, s)).for_each(|_| edit(&mut sheet, s));
+        if below(4, s) > 0 {
+            recount(&mut sheet);
+        }
+        look_up_all(&before, &sheet);
+        good += usize::from(tags_in(&sheet).first().is_some_and(|&tag| !look_up(&sheet, tag).is_empty()));
+    }
+    assert!((20_000..80_000).contains(&good), "{good} sheets are good: there should be many of both kinds");
+}
+
+// There and back.
+
+/// A sheet of written lines gives the names, and each line reads as what was given.
+#[test]
+fn written_and_looked_up() {
+    let mut state = 6;
+    for count in (0..200).chain([1_000]) {
+        let mut sheet = good_sheet(&vec![vec![b'?'; LINE]; count]);
+        let mut names: Vec<(u32, Vec<u8>)> = vec![];
+        for k in 0..count {
+            let (tag, name) = (any_tag(&mut state), any_name(&mut state));
+            let codes = [0; 3].map(|_: u32| any_code(&mut state));
+            let lent = &mut sheet[HEADER + LINE * k..];
+            hubeltxa::write_line(tag, codes, &name, lent).unwrap();
+            assert_eq!(write(tag, codes, &name, LINE), (0, lent[..LINE].to_vec()));
+            assert_eq!(straight_scan::line(&lent[..LINE]), Some((Sample { tag, codes }, name.len())));
+            if names.iter().all(|(t, _)| *t != tag) {
+                names.push((tag, name));
+            }
+        }
+        assert_eq!(straight_scan::header(&sheet), Some(count));
+        names.iter().for_each(|(tag, name)| assert_eq!(look_up(&sheet, *tag), name));
+    }
+}
