@@ -2,10 +2,11 @@
 # make test         the whole test, from nothing; its last line is rt's verdict
 # make test-long    all 2^32 floats in each channel, compared with the straight scan
 # make definitions  the definitions, compared with the straight scan by computing both
+# make bench        how fast sheets are read and written, beside ordinary Rust
 # make fmt          format Rattle and Rust
 # make clean        remove what is built
 
-.PHONY: all test test-long definitions fmt clean
+.PHONY: all test test-long definitions bench fmt clean
 
 all:
 	@rt check
@@ -20,6 +21,10 @@ test-long:
 
 definitions:
 	@tools/definitions/run
+
+bench:
+	@rt staticlib hubeltxa
+	@cd rust && cargo bench --offline
 
 fmt:
 	@rt fmt

@@ -26,7 +26,8 @@ static void look_up(uint32_t tag, size_t sheet_len)
     size_t start, length;
 
     hbx_name(sheet, sheet_len, tag, &start, &length);
-    printf("name %" PRIu32 ": \"%.*s\", %zu bytes at %zu\n", tag, (int)length, (const char *)sheet + start, length, start);
+    printf("name %" PRIu32 ": \"%.*s\", %zu bytes at %zu\n", tag, (int)length, (const char *)sheet + start,
+           length, start);
 }
 
 int main(void)
