@@ -8,11 +8,15 @@ use Rattle.sheet.specs.Steps.{within, putAt, nameLengthIn}
 use Rattle.sheet.specs.Sheet.{title, sameBytes, countColumns, headerLength, lineStart, countIf, lineCount, readHeader, linePart, linesFrom, linesBy, linesOf}
 use Rattle.sheet.specs.Sheet.{emptyPart, bytesOf, allGood, namePartFrom, namePartOf, namePart, headerBytes, linesBytes, sheetBytes}
 
+-- One that opens the numbers of columns, places and lengths.
+unfoldable pub sheetNumbers : Unit {0}
+unfolding tagColumns codeColumns nameColumns redStart greenStart blueStart blankAt nameStart newlineAt lineLength title countColumns headerLength lineStart
+sheetNumbers = tt
+
 unfoldable pub sheetComputes : Unit {0}
-unfolding colourComputes blank newline trimmed digitsAfter decimalIn columnNumber present within decimal columnOf putAt
-    tagColumns codeColumns nameColumns redStart greenStart blueStart blankAt nameStart newlineAt lineLength
+unfolding colourComputes sheetNumbers blank newline trimmed digitsAfter decimalIn columnNumber present within decimal columnOf putAt
     nameByte leading nameGood nameFieldGood lineFrom nameLengthIn nameField lineFormed codeColumn lineNumbers lineOf readLine
     numberColumns lineBytes writeNumber writeLine
-    title sameBytes countColumns headerLength lineStart countIf lineCount readHeader linePart linesFrom linesBy linesOf
+    sameBytes countIf lineCount readHeader linePart linesFrom linesBy linesOf
     emptyPart bytesOf allGood namePartFrom namePartOf namePart headerBytes linesBytes sheetBytes
 sheetComputes = tt

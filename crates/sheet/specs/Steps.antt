@@ -19,6 +19,14 @@ unfoldable pub within : ℕ → Option ℕ → Option ℕ
 within most none = none
 within most (some n) = elim (leb n most) [ true ↦ some n | false ↦ none ]
 
+-- The greatest tag and the greatest code, as the columns are read with them; `no-tag` and `no-code` show them to be those of
+-- `isTag` and `isCode`.
+abbrev pub greatestTag : ℕ
+greatestTag = 4294967295
+
+abbrev pub greatestCode : ℕ
+greatestCode = 65535
+
 -- The length of the name in its columns, 0 where these are not good.
 unfoldable pub nameLengthIn : List ℕ → ℕ
 nameLengthIn s = elim (nameFieldGood s) [ true ↦ length (leading s) | false ↦ 0 ]

@@ -14,7 +14,9 @@ ghost use Rattle.sheet.specs.Sheet.{lineStart, linePart, readHeader};
 
 const TITLE_LENGTH: usize = 8;
 
-const COUNT_END: usize = TITLE_LENGTH + 6;
+const COUNT_COLUMNS: usize = 6;
+
+const COUNT_END: usize = TITLE_LENGTH + COUNT_COLUMNS;
 
 // Where line 0 starts.
 pub const HEADER_LENGTH: usize = COUNT_END + 1;

@@ -10,7 +10,7 @@ ghost use Prim.Native.Nat.{_+_, _≤_};
 ghost use lib.ListN.{length};
 ghost use Rattle.sheet.specs.Answers.{lineAnswer};
 ghost use Rattle.sheet.specs.Line.{codeColumns, lineLength, codeColumn, lineNumbers, readLine};
-ghost use Rattle.sheet.specs.Steps.{numberIs, within, nameLengthIn};
+ghost use Rattle.sheet.specs.Steps.{numberIs, within, nameLengthIn, greatestCode};
 
 // The columns of a line, and where each starts.
 pub const TAG_COLUMNS: usize = 10;
@@ -34,9 +34,9 @@ pub const NEWLINE_AT: usize = NAME_START + NAME_COLUMNS;
 pub const LINE_LENGTH: usize = NEWLINE_AT + 1;
 
 // The greatest tag and the greatest code.
-const TAG_MOST: u64 = 0xffff_ffff;
+const GREATEST_TAG: u64 = 0xffff_ffff;
 
-const CODE_MOST: u64 = 65535;
+const GREATEST_CODE: u64 = 65535;
 
 // What a good line says: its sample, and the length of its name.
 pub struct Line {
@@ -68,9 +68,9 @@ fn name_length(field: &[u8]) -> usize
 // The code in the columns that start at `at`.
 fn code_at(line: &[u8], at: usize) -> Number
     requires { ⌜ at + codeColumns ≤ length (now line) ⌝ }
-    ensures { λ r. ⌜ numberIs r ≡ within 65535 (codeColumn (now (line .entry)) at) ⌝ }
+    ensures { λ r. ⌜ numberIs r ≡ within greatestCode (codeColumn (now (line .entry)) at) ⌝ }
 {
-    read_number(&line[at..at + CODE_COLUMNS], CODE_MOST)
+    read_number(&line[at..at + CODE_COLUMNS], GREATEST_CODE)
 }
 
 // What a line's numbers say, beside a name of the length given.
@@ -78,7 +78,7 @@ fn numbers(line: &[u8], name_length: usize) -> Reading
     requires { ⌜ length (now line) ≡ lineLength ⌝ }
     ensures { λ r. ⌜ lineAnswer r .line ≡ lineNumbers (now (line .entry)) «name_length» ⌝ }
 {
-    let Number::Is(tag) = read_number(&line[..TAG_COLUMNS], TAG_MOST) else {
+    let Number::Is(tag) = read_number(&line[..TAG_COLUMNS], GREATEST_TAG) else {
         return Reading::NotGood;
     };
     let Number::Is(red) = code_at(line, RED_START) else {

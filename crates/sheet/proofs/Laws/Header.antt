@@ -18,12 +18,12 @@ use Rattle.sheet.specs.Sheet.{title, sameBytes, countColumns, lineStart,
 use Rattle.sheet.proofs.Laws.Digits.{within-some, within-yes}
 use Rattle.sheet.proofs.Laws.Numbers.{line-length-is, line-start-is}
 
--- What a good header of n lines has: the title, the count in bytes 8 to 13, a newline, and as many bytes after it as the lines take.
+-- What a good header of n lines has: the title, the count after it, a newline, and as many bytes after that as the lines take.
 pub record Formed (s : List ℕ) (n : ℕ) : Type 0 where
-  pub titled : sameBytes (take 8 s) title ≡ true
-  pub ended : getD s 14 0 ≡ 10
-  pub count : columnNumber (take 6 (drop 8 s)) ≡ some n
-  pub whole : length s ≡ 15 + 62 * n
+  pub titled : sameBytes (take (length title) s) title ≡ true
+  pub ended : getD s (length title + countColumns) 0 ≡ newline
+  pub count : columnNumber (take countColumns (drop (length title) s)) ≡ some n
+  pub whole : length s ≡ lineStart n
 
 -- A count is taken where the header is so formed and the length is that of so many lines.
 taken : (b : Bool) (o : Option ℕ) (s : List ℕ) (n : ℕ) → countIf b o s ≡ some n → (b ≡ true) × (o ≡ some n) × (length s ≡ lineStart n)
@@ -45,15 +45,15 @@ taken true (some m) s n e = go (eqb (length s) (lineStart m)) refl e
 
 -- So a count says that the header is so formed, and the other way round.
 pub formed : (s : List ℕ) (n : ℕ) → lineCount s ≡ some n → Formed s n
-unfolding lineCount title countColumns newline
+unfolding lineCount
 formed s n e =
     let h = taken _ _ s n e in
     let t = and-eq-true-iff _ _ .0 (h .0) in
-    record { titled = t .0; ended = eqb-true _ _ (t .1); count = h .1; whole = h .2 ∙ line-start-is n }
+    record { titled = t .0; ended = eqb-true _ _ (t .1); count = h .1; whole = h .2 }
 
 counted : (s : List ℕ) (n : ℕ) → Formed s n → lineCount s ≡ some n
-unfolding lineCount countIf title countColumns newline
-counted s n f = rw (f .titled, eq-eqb _ _ (f .ended), f .count, countIf, eq-eqb (length s) (lineStart n) (f .whole ∙ sym (line-start-is n)))
+unfolding lineCount countIf
+counted s n f = rw (f .titled, eq-eqb _ _ (f .ended), f .count, countIf, eq-eqb (length s) (lineStart n) (f .whole))
 
 -- The answer of a header that is so formed, and of one that is not.
 pub good : (s : List ℕ) (n : ℕ) → Formed s n → headerAnswer (H.Lines n) ≡ readHeader s
@@ -69,26 +69,29 @@ not-good s h = go (lineCount s) refl
     go (some n) e = absurd (h n (formed s n e))
 
 -- A sheet without the title has no good header.
-pub not-titled : (s : List ℕ) (n : ℕ) → sameBytes (take 8 s) title ≡ false → Formed s n → ⊥
+pub not-titled : (s : List ℕ) (n : ℕ) → sameBytes (take (length title) s) title ≡ false → Formed s n → ⊥
 not-titled s n e f = let z : _≡_ {A = ℕ} 0 1 = cc (f .titled) in omega arith
 
 -- The length of a sheet leaves one number that a good header can count: it is at most that number, and no other.
-module _ (s : List ℕ) (lines n : ℕ) (exact : length s ≡ 15 + 62 * lines) (f : Formed s n) where
-  pub count-found : none ≡ within lines (columnNumber (take 6 (drop 8 s))) → ⊥
-  count-found e = let z : _≡_ {A = ℕ} 0 1 = cc (within-yes lines n (omega arith), f .count) in omega arith
+module _ (s : List ℕ) (lines n : ℕ) (exact : length s ≡ lineStart lines) (f : Formed s n) where
+  same-lines : n ≡ lines
+  same-lines = omega (arith, f .whole, line-start-is n, line-start-is lines)
 
-  pub count-is : (m : ℕ) → some m ≡ within lines (columnNumber (take 6 (drop 8 s))) → m ≡ lines
+  pub count-found : none ≡ within lines (columnNumber (take countColumns (drop (length title) s))) → ⊥
+  count-found e = let z : _≡_ {A = ℕ} 0 1 = cc (within-yes lines n (omega (arith, same-lines)), f .count) in omega arith
+
+  pub count-is : (m : ℕ) → some m ≡ within lines (columnNumber (take countColumns (drop (length title) s))) → m ≡ lines
   count-is m e =
       let same : m ≡ n = cc (within-some lines _ m e .0, f .count) in
-      omega arith
+      omega (arith, same-lines)
 
--- A line is 62 bytes.
-pub line-ends : (k : ℕ) → lineStart (suc k) ≡ lineStart k + 62
-line-ends k = omega (arith, line-start-is k, line-start-is (suc k))
+-- A line ends where the next one starts.
+pub line-ends : (k : ℕ) → lineStart (suc k) ≡ lineStart k + lineLength
+line-ends k = omega (arith, line-start-is k, line-start-is (suc k), line-length-is)
 
--- A part of 62 bytes that starts where line k does is that line.
-pub line-part-is : (s : List ℕ) (k at : ℕ) → at ≡ lineStart k → take (at + 62 - at) (drop at s) ≡ linePart s k
+-- A part as long as a line that starts where line k does is that line.
+pub line-part-is : (s : List ℕ) (k at : ℕ) → at ≡ lineStart k → take (at + lineLength - at) (drop at s) ≡ linePart s k
 unfolding linePart
 line-part-is s k at e =
-    let size : at + 62 - at ≡ lineLength = omega (arith, line-length-is) in
+    let size : at + lineLength - at ≡ lineLength = omega arith in
     rw (size, e)

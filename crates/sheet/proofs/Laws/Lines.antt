@@ -23,7 +23,7 @@ use Rattle.sheet.proofs.Laws.Names.{name-good}
 use Rattle.sheet.proofs.Laws.Ranges.{GoodRange, Ranged, from-holds}
 use Rattle.sheet.specs.Line.{blankAt, newlineAt, lineLength}
 use Rattle.sheet.specs.Line.{leading, nameGood, nameFieldGood, lineFrom, nameColumns, nameField, lineFormed, lineNumbers, lineOf, readLine}
-use Rattle.sheet.specs.Steps.{within, nameLengthIn}
+use Rattle.sheet.specs.Steps.{within, nameLengthIn, greatestTag, greatestCode}
 
 -- A reading that says what a line says is the line's answer, with its number.
 pub answer-is : (r : Reading) (s : List ℕ) → lineAnswer r .line ≡ lineOf s → lineAnswer r ≡ readLine s
@@ -76,25 +76,25 @@ module _ (t r g b : Option ℕ) (n : ℕ) where
   unfolding Ranged
   ranged l h = rw h at (from-holds Ranged t r g b n tt (λ l n r. r))
 
-  pub no-tag : none ≡ within 4294967295 t → none ≡ lineFrom t r g b n
+  pub no-tag : none ≡ within greatestTag t → none ≡ lineFrom t r g b n
   unfolding isTag
   no-tag e = unless (λ l h.
-      let fits : l .sample .tag ≤ 4294967295 = omega (arith, ltb-true (l .sample .tag) (2 ^ 32) (ranged l h .tag)) in
-      Option·none-ne-some (l .sample .tag) (e ∙ ap (within 4294967295) (says t r g b n l h .tag) ∙ within-yes 4294967295 _ fits))
+      let fits : l .sample .tag ≤ greatestTag = omega (arith, ltb-true (l .sample .tag) (2 ^ 32) (ranged l h .tag)) in
+      Option·none-ne-some (l .sample .tag) (e ∙ ap (within greatestTag) (says t r g b n l h .tag) ∙ within-yes greatestTag _ fits))
 
-  pub no-code : (h : Channel) → none ≡ within 65535 (codes r g b h) → none ≡ lineFrom t r g b n
+  pub no-code : (h : Channel) → none ≡ within greatestCode (codes r g b h) → none ≡ lineFrom t r g b n
   no-code h e = unless (λ l k.
-      let fits : codeIn h (l .sample .colour) ≤ 65535 = fit-codes (l .sample .colour) .0 (ranged l k .codes) h in
-      Option·none-ne-some (codeIn h (l .sample .colour)) (e ∙ ap (within 65535) (says t r g b n l k .code h) ∙ within-yes 65535 _ fits))
+      let fits : codeIn h (l .sample .colour) ≤ greatestCode = fit-codes (l .sample .colour) .0 (ranged l k .codes) h in
+      Option·none-ne-some (codeIn h (l .sample .colour)) (e ∙ ap (within greatestCode) (says t r g b n l k .code h) ∙ within-yes greatestCode _ fits))
 
 -- With all its numbers in range it says them.
-pub all-numbers : (t r g b : Option ℕ) (s : Sample) (n : ℕ) → some (s .tag) ≡ within 4294967295 t
-    → ((h : Channel) → some (codeIn h (s .colour)) ≡ within 65535 (codes r g b h))
+pub all-numbers : (t r g b : Option ℕ) (s : Sample) (n : ℕ) → some (s .tag) ≡ within greatestTag t
+    → ((h : Channel) → some (codeIn h (s .colour)) ≡ within greatestCode (codes r g b h))
     → some (record { sample = s; «name_length» = n }) ≡ lineFrom t r g b n
 unfolding lineFrom isTag codeIn
 all-numbers t r g b s n et ec =
-    let tag = within-some 4294967295 t (s .tag) et in
-    let code : (h : Channel) → (codes r g b h ≡ some (codeIn h (s .colour))) × (codeIn h (s .colour) ≤ 65535) = λ h. within-some 65535 (codes r g b h) (codeIn h (s .colour)) (ec h) in
+    let tag = within-some greatestTag t (s .tag) et in
+    let code : (h : Channel) → (codes r g b h ≡ some (codeIn h (s .colour))) × (codeIn h (s .colour) ≤ greatestCode) = λ h. within-some greatestCode (codes r g b h) (codeIn h (s .colour)) (ec h) in
     let tag-fits : isTag (s .tag) ≡ true = lt-ltb (s .tag) (2 ^ 32) (omega (arith, tag .1)) in
     let good : (isTag (s .tag) && codesFit (s .colour)) ≡ true = and-eq-true-iff _ _ .1 (tag-fits, fit-codes (s .colour) .1 (λ h. code h .1)) in
     rw (tag .0, code Red .0, code Green .0, code Blue .0) (rw (good, lineFrom))

@@ -108,7 +108,7 @@ module _ (p : Part) (tag k : ℕ) (l : Line) (rest : List (Option Line)) where
 -- The state of a lookup before line k, with the part found so far: what is left to find gives the part that it hands back.
 pub record SoFar (s : List ℕ) (tag count k start size : ℕ) : Type 0 where
   pub reached : k ≤ count
-  pub whole : length s ≡ 15 + 62 * count
+  pub whole : length s ≡ lineStart count
   pub unfound : size ≡ 0 → start ≡ 0
   pub left : namePart s tag ≡ pending (record { start = start; size = size }) tag k (linesFrom s k (count - k))
 
@@ -162,34 +162,34 @@ module _ {s : List ℕ} {tag count k start size : ℕ} (h : SoFar s tag count k 
     pub another-tag : (l .sample .tag ≡ tag → ⊥) → SoFar s tag count (k + 1) start size
     another-tag other = onward (h .unfound) (passed _ _ _ _ _ other)
 
-    pub finds : size ≡ 0 → l .sample .tag ≡ tag → SoFar s tag count (k + 1) (lineStart k + 29) (l .«name_length»)
+    pub finds : size ≡ 0 → l .sample .tag ≡ tag → SoFar s tag count (k + 1) (lineStart k + nameStart) (l .«name_length»)
     finds z same =
         let named = name-length _ l (sym e) in
-        onward (λ w. absurd (omega arith)) (rw (← name-start-is) (hit _ _ _ _ _ z same (λ w. omega arith)))
+        onward (λ w. absurd (omega arith)) (hit _ _ _ _ _ z same (λ w. omega arith))
 
 -- That a part lies within the first m bytes.
 abbrev Within : Part → ℕ → Type 0
 Within p m = p .start + p .size ≤ m
 
 -- A name lies in its line, so within the bytes up to the line's end, and each name among lines from line k on.
-line-within : (tag k m : ℕ) (l : Line) (rest : List (Option Line)) → l .«name_length» ≤ nameColumns → 15 + 62 * suc k ≤ m
+line-within : (tag k m : ℕ) (l : Line) (rest : List (Option Line)) → l .«name_length» ≤ nameColumns → lineStart (suc k) ≤ m
     → Within (namePartFrom tag (suc k) rest) m → Within (namePartFrom tag k (some l ∷ rest)) m
 unfolding namePartFrom nameColumns
 line-within tag k m l rest short room h = go (eqb (l .sample .tag) tag) refl
   where
     go : (q : Bool) → eqb (l .sample .tag) tag ≡ q → Within (namePartFrom tag k (some l ∷ rest)) m
-    go true e = rw (e, namePartFrom) (omega (arith, line-start-is k, name-start-is))
+    go true e = rw (e, namePartFrom) (omega (arith, line-start-is k, line-start-is (suc k), name-start-is))
     go false e = rw (e, namePartFrom) h
 
-from-within : (s : List ℕ) (tag k n : ℕ) → Within (namePartFrom tag k (linesFrom s k n)) (15 + 62 * (k + n))
+from-within : (s : List ℕ) (tag k n : ℕ) → Within (namePartFrom tag k (linesFrom s k n)) (lineStart (k + n))
 unfolding namePartFrom linesFrom emptyPart
 from-within s tag k zero = omega arith
-from-within s tag k (suc n) = go (lineOf (linePart s k)) refl (omega (arith, from-within s tag (suc k) n))
+from-within s tag k (suc n) = go (lineOf (linePart s k)) refl (omega (arith, from-within s tag (suc k) n, line-start-is (suc k + n), line-start-is (k + suc n)))
   where
-    go : (o : Option Line) → lineOf (linePart s k) ≡ o → Within (namePartFrom tag (suc k) (linesFrom s (suc k) n)) (15 + 62 * (k + suc n))
-        → Within (namePartFrom tag k (o ∷ linesFrom s (suc k) n)) (15 + 62 * (k + suc n))
+    go : (o : Option Line) → lineOf (linePart s k) ≡ o → Within (namePartFrom tag (suc k) (linesFrom s (suc k) n)) (lineStart (k + suc n))
+        → Within (namePartFrom tag k (o ∷ linesFrom s (suc k) n)) (lineStart (k + suc n))
     go none e h = h
-    go (some l) e h = line-within tag k (15 + 62 * (k + suc n)) l (linesFrom s (suc k) n) (name-length (linePart s k) l e .1) (omega arith) h
+    go (some l) e h = line-within tag k (lineStart (k + suc n)) l (linesFrom s (suc k) n) (name-length (linePart s k) l e .1) (omega (arith, line-start-is (suc k), line-start-is (k + suc n))) h
 
 good-within : (good : Bool) (p : Part) (m : ℕ) → Within p m → Within (whereGood good p) m
 unfolding whereGood emptyPart
@@ -203,7 +203,7 @@ name-within s tag = go (lineCount s) refl
   where
     go : (o : Option ℕ) → lineCount s ≡ o → Within (namePart s tag) (length s)
     go none e = rw e (omega arith)
-    go (some n) e = rw (e, formed s n e .whole) (good-within (allGood (linesFrom s 0 n)) (namePartFrom tag 0 (linesFrom s 0 n)) (15 + 62 * n) (omega (arith, from-within s tag 0 n)))
+    go (some n) e = rw (e, formed s n e .whole) (good-within (allGood (linesFrom s 0 n)) (namePartFrom tag 0 (linesFrom s 0 n)) (lineStart n) (omega (arith, from-within s tag 0 n, line-start-is (0 + n), line-start-is n)))
 
 -- The lookup's part of a sheet can be handed back, and it is what is promised.
 module _ (sheet : RefT (List ℕ)) (tag : ℕ) (p : Part) (e : p ≡ namePart (now sheet) tag) where

@@ -20,10 +20,10 @@ use Rattle.sheet.specs.declared.writer.Written.{Written}
 use Rattle.sheet.proofs.writer.Written.{the-type}
 use Rattle.sheet.specs.declared.writer.Written.the-variants as W
 use Rattle.sheet.specs.Answers.{written, writtenNumber}
+use Rattle.sheet.specs.Computes.{sheetNumbers}
 use Rattle.sheet.specs.Column.{blank, newline, columnOf}
-use Rattle.sheet.specs.Line.{tagColumns, codeColumns, nameColumns, lineLength, nameGood, numberColumns, lineBytes, writeNumber, writeLine}
+use Rattle.sheet.specs.Line.{tagColumns, codeColumns, nameColumns, redStart, greenStart, blueStart, blankAt, nameStart, newlineAt, lineLength, nameGood, numberColumns, lineBytes, writeNumber, writeLine}
 use Rattle.sheet.specs.Steps.{putAt}
-use Rattle.sheet.proofs.Laws.Numbers.{line-length-is}
 use Rattle.sheet.proofs.Laws.Parts.{put-next, set-next, part-put}
 use Rattle.sheet.proofs.Laws.Written.{column-length}
 
@@ -42,64 +42,72 @@ column-next : (p d : List ℕ) (a w n : ℕ) → length p ≡ a → putAt a (col
 column-next p d a w n end = put-next p d a end (columnOf w n) ∙ rw (column-length w n)
 
 -- The four numbers of a line, written one after another.
-pub numbers-written : (s : Sample) (l₀ l₁ l₂ l₃ l₄ : List ℕ) → l₁ ≡ putAt 0 (columnOf 10 (s .tag)) l₀
-    → l₂ ≡ putAt 10 (columnOf 6 (s .colour .red)) l₁
-    → l₃ ≡ putAt 16 (columnOf 6 (s .colour .green)) l₂
-    → l₄ ≡ putAt 22 (columnOf 6 (s .colour .blue)) l₃
-    → l₄ ≡ numberColumns s ++ drop 28 l₀
-unfolding numberColumns tagColumns codeColumns
+pub numbers-written : (s : Sample) (l₀ l₁ l₂ l₃ l₄ : List ℕ)
+    → l₁ ≡ putAt 0 (columnOf tagColumns (s .tag)) l₀
+    → l₂ ≡ putAt redStart (columnOf codeColumns (s .colour .red)) l₁
+    → l₃ ≡ putAt greenStart (columnOf codeColumns (s .colour .green)) l₂
+    → l₄ ≡ putAt blueStart (columnOf codeColumns (s .colour .blue)) l₃
+    → l₄ ≡ numberColumns s ++ drop blankAt l₀
+unfolding numberColumns sheetNumbers
 numbers-written s l₀ l₁ l₂ l₃ l₄ e₁ e₂ e₃ e₄ =
-    let t : List ℕ = columnOf 10 (s .tag) in
-    let r : List ℕ = columnOf 6 (s .colour .red) in
-    let g : List ℕ = columnOf 6 (s .colour .green) in
-    let h₁ : l₁ ≡ t ++ drop 10 l₀ = e₁ ∙ column-next [] l₀ 0 10 (s .tag) refl in
-    let h₂ : l₂ ≡ (t ++ r) ++ drop 16 l₀ = e₂ ∙ ap (putAt 10 r) h₁ ∙ column-next t l₀ 10 6 (s .colour .red) (column-length 10 (s .tag)) in
-    let h₃ : l₃ ≡ ((t ++ r) ++ g) ++ drop 22 l₀ =
-    e₃ ∙ ap (putAt 16 g) h₂ ∙ column-next (t ++ r) l₀ 16 6 (s .colour .green) (simp (length-append, column-length)) in
-    e₄ ∙ ap (putAt 22 (columnOf 6 (s .colour .blue))) h₃
-    ∙ column-next ((t ++ r) ++ g) l₀ 22 6 (s .colour .blue) (simp (length-append, column-length))
+    let t : List ℕ = columnOf tagColumns (s .tag) in
+    let r : List ℕ = columnOf codeColumns (s .colour .red) in
+    let g : List ℕ = columnOf codeColumns (s .colour .green) in
+    let h₁ : l₁ ≡ t ++ drop redStart l₀ = e₁ ∙ column-next [] l₀ 0 tagColumns (s .tag) refl in
+    let h₂ : l₂ ≡ (t ++ r) ++ drop greenStart l₀ =
+    e₂ ∙ ap (putAt redStart r) h₁ ∙ column-next t l₀ redStart codeColumns (s .colour .red) (column-length tagColumns (s .tag)) in
+    let h₃ : l₃ ≡ ((t ++ r) ++ g) ++ drop blueStart l₀ =
+    e₃ ∙ ap (putAt greenStart g) h₂
+    ∙ column-next (t ++ r) l₀ greenStart codeColumns (s .colour .green) (simp (length-append, column-length)) in
+    e₄ ∙ ap (putAt blueStart (columnOf codeColumns (s .colour .blue))) h₃
+    ∙ column-next ((t ++ r) ++ g) l₀ blueStart codeColumns (s .colour .blue) (simp (length-append, column-length))
 
-numbers-length : (s : Sample) → length (numberColumns s) ≡ 28
-unfolding numberColumns tagColumns codeColumns
+numbers-length : (s : Sample) → length (numberColumns s) ≡ blankAt
+unfolding numberColumns redStart greenStart blueStart blankAt
 numbers-length s = simp (length-append, column-length)
 
 -- The rest of a line after its numbers: a blank, the name with blanks after it in a part that was lent, a newline.
-module _ (s : Sample) (l₀ l₁ : List ℕ) (room : lineLength ≤ length l₀) (numbers : l₁ ≡ numberColumns s ++ drop 28 l₀) where
+module _ (s : Sample) (l₀ l₁ : List ℕ) (room : lineLength ≤ length l₀) (numbers : l₁ ≡ numberColumns s ++ drop blankAt l₀) where
   abbrev before : List ℕ
-  before = numberColumns s ++ (32 ∷ [])
+  before = numberColumns s ++ (blank ∷ [])
 
-  before-length : length before ≡ 29
+  before-length : length before ≡ nameStart
+  unfolding nameStart
   before-length = simp length-append (omega (arith, numbers-length s))
 
-  blank-set : set l₁ 28 32 ≡ before ++ drop 29 l₀
+  blank-set : set l₁ blankAt blank ≡ before ++ drop nameStart l₀
+  unfolding nameStart newlineAt lineLength
   blank-set =
-      ap (λ (l : List ℕ). set l 28 32) numbers
-      ∙ set-next (numberColumns s) l₀ 28 (numbers-length s) 32 (omega (arith, line-length-is))
+      ap (λ (l : List ℕ). set l blankAt blank) numbers ∙ set-next (numberColumns s) l₀ blankAt (numbers-length s) blank (omega arith)
 
-  pub name-room : length (take 32 (drop 29 (set l₁ 28 32))) ≡ 32
+  pub name-room : length (take nameColumns (drop nameStart (set l₁ blankAt blank))) ≡ nameColumns
+  unfolding newlineAt lineLength
   name-room =
-      let rest : drop 29 (set l₁ 28 32) ≡ drop 29 l₀ = ap (drop 29) blank-set ∙ drop-at before (drop 29 l₀) 29 before-length in
-      rw rest (length-take-le 32 (drop 29 l₀) (omega (arith, length-drop 29 l₀, line-length-is)))
+      let rest : drop nameStart (set l₁ blankAt blank) ≡ drop nameStart l₀ =
+      ap (drop nameStart) blank-set ∙ drop-at before (drop nameStart l₀) nameStart before-length in
+      rw rest (length-take-le nameColumns (drop nameStart l₀) (omega (arith, length-drop nameStart l₀)))
 
-  module _ (name t : List ℕ) (fits : length name ≤ nameColumns) (named : t ≡ name ++ replicate (length (take 32 (drop 29 (set l₁ 28 32))) - length name) blank) where
+  module _ (name t : List ℕ) (fits : length name ≤ nameColumns)
+      (named : t ≡ name ++ replicate (length (take nameColumns (drop nameStart (set l₁ blankAt blank))) - length name) blank) where
     name-is : t ≡ name ++ replicate (nameColumns - length name) blank
-    unfolding nameColumns
     name-is = named ∙ rw name-room
 
-    name-size : length t ≡ 32
-    unfolding nameColumns
-    name-size = ap length name-is ∙ simp length-append (omega (arith, length-replicate (32 - length name) blank))
+    name-size : length t ≡ nameColumns
+    name-size = ap length name-is ∙ simp length-append (omega (arith, length-replicate (nameColumns - length name) blank))
 
-    name-put : putMid 29 32 (set l₁ 28 32) t ≡ (before ++ t) ++ drop 61 l₀
+    name-put : putMid nameStart nameColumns (set l₁ blankAt blank) t ≡ (before ++ t) ++ drop newlineAt l₀
+    unfolding newlineAt
     name-put =
-        part-put 29 32 (set l₁ 28 32) t name-size ∙ ap (putAt 29 t) blank-set ∙ put-next before l₀ 29 before-length t ∙ rw name-size
+        part-put nameStart nameColumns (set l₁ blankAt blank) t name-size ∙ ap (putAt nameStart t) blank-set
+        ∙ put-next before l₀ nameStart before-length t
+        ∙ rw name-size
 
-    pub line-written : set (putMid 29 32 (set l₁ 28 32) t) 61 10 ≡ lineBytes s name ++ drop lineLength l₀
-    unfolding lineBytes blank newline
+    pub line-written : set (putMid nameStart nameColumns (set l₁ blankAt blank) t) newlineAt newline ≡ lineBytes s name ++ drop lineLength l₀
+    unfolding lineBytes newlineAt lineLength
     line-written =
-        ap (λ (l : List ℕ). set l 61 10) name-put
-        ∙ set-next (before ++ t) l₀ 61 (length-append before t ∙ omega (arith, before-length, name-size)) 10 (omega (arith, line-length-is))
-        ∙ rw (name-is, line-length-is) (simp append-assoc)
+        ap (λ (l : List ℕ). set l newlineAt newline) name-put
+        ∙ set-next (before ++ t) l₀ newlineAt (length-append before t ∙ omega (arith, before-length, name-size)) newline (omega arith)
+        ∙ rw name-is (simp append-assoc)
 
 -- The writer's questions, one after another.
 module _ (codes name room : Bool) where
@@ -132,11 +140,11 @@ refused W.TooShort t e = omega arith
 
 -- What is asked of the line to write, as the code asks it.
 module _ (s : Sample) (name lent : List ℕ) (codes good room : Bool) (w : Written)
-    (c : codes ≡ codesFit (s .colour)) (n : good ≡ nameGood name) (r : room ≡ leb 62 (length lent))
+    (c : codes ≡ codesFit (s .colour)) (n : good ≡ nameGood name) (r : room ≡ leb lineLength (length lent))
     (said : writtenNumber w ≡ firstNo (asks 4 codes ∷ asks 10 good ∷ asks 13 room ∷ [])) where
   number-is : writtenNumber w ≡ writeNumber s name lent
   unfolding writeNumber
-  number-is = said ∙ rw (c, n, r, line-length-is)
+  number-is = said ∙ rw (c, n, r)
 
   -- A refusal leaves the bytes lent.
   pub left-alone : (writtenNumber w ≡ 0 → ⊥) → written w lent ≡ writeLine s name lent
@@ -149,7 +157,7 @@ module _ (s : Sample) (name lent : List ℕ) (codes good room : Bool) (w : Writt
       let after = asked 4 codes _ (λ e. omega arith) (sym said ∙ z) in
       let named = asked 10 good _ (λ e. omega arith) (after .1) in
       let long = asked 13 room _ (λ e. omega arith) (named .1) in
-      (sym n ∙ named .0, omega (arith, line-length-is, leb-true 62 (length lent) (sym r ∙ long .0)))
+      (sym n ∙ named .0, leb-true lineLength (length lent) (sym r ∙ long .0))
 
   -- The line stands over the bytes lent.
   pub line-stands : writtenNumber w ≡ 0 → (left : List ℕ) → left ≡ lineBytes s name ++ drop lineLength lent → written w left ≡ writeLine s name lent

@@ -2,6 +2,7 @@
 use mathlib.Core.Path.{ap, _∙_}
 use native.Mathlib.Omega.{arith}
 use Rattle.sheet.specs.Line.{readLine}
+use Rattle.sheet.specs.Computes.{sheetNumbers}
 use Rattle.sheet.proofs.Laws.Header.{line-ends, line-part-is}
 use borrow.Author.Needs.{needs}
 use Rattle.sheet.proofs.header.line_at.Statement.{statement}
@@ -20,12 +21,14 @@ part-read-line-start : tie.Need-part-read-line-start
 part-read-line-start c = search needs
 
 part-read-line-end : tie.Need-part-read-line-end
+unfolding sheetNumbers
 part-read-line-end c = omega (arith, line-ends (c .before .before .args .k))
 
 read-line-requires : tie.Need-read-line-requires
 read-line-requires c κs = search needs
 
 returns : tie.Need-returns
+unfolding sheetNumbers
 returns c = c .read-line .ensures ∙ ap readLine (line-part-is _ _ _ (c .before .before .line-start .ensures))
 
 pub line-at-spec : {M : Type 1} → statement M

@@ -5,6 +5,8 @@ use native.Mathlib.Omega.{arith}
 use borrow.Author.Tests.{not-true, not-false}
 use Rattle.sheet.specs.Steps.{numberIs}
 use Rattle.sheet.specs.Sheet.{title}
+use Rattle.sheet.specs.Computes.{sheetNumbers}
+use Rattle.sheet.specs.Column.{newline}
 use Rattle.sheet.proofs.Laws.Digits.{within-some}
 use Rattle.sheet.proofs.Laws.Header.{good, not-good, not-titled, count-found, count-is}
 use borrow.Author.Needs.{needs}
@@ -13,6 +15,7 @@ use Rattle.sheet.proofs.header.read_header.Statement.{statement}
 use Rattle.sheet.proofs.header.read_header.Tie as tie
 
 returns : tie.Need-returns
+unfolding newline sheetNumbers
 returns c = not-good _ (λ n f. omega arith)
 
 slice-aggregate-same : tie.Need-slice-aggregate-same
@@ -33,6 +36,7 @@ shared-slice-read-if3 : tie.Need-shared-slice-read-if3
 shared-slice-read-if3 c = search needs
 
 returns-3 : tie.Need-returns-3
+unfolding newline sheetNumbers
 returns-3 c = not-good _ (λ n f. c .if3 .taken (f .ended))
 
 sub-lines : tie.Need-sub-lines
@@ -45,6 +49,7 @@ add-if4 : tie.Need-add-if4
 add-if4 c = search needs
 
 returns-4 : tie.Need-returns-4
+unfolding newline sheetNumbers
 returns-4 c = not-good _ (λ n f. omega arith)
 
 sub-read-number : tie.Need-sub-read-number
@@ -66,13 +71,13 @@ enum-told : tie.Need-enum-told
 enum-told c = search needs
 
 returns-5 : tie.Need-returns-5
-unfolding numberIs
+unfolding numberIs newline sheetNumbers
 returns-5 c =
     let d = c .before .before in
     not-good _ (λ n f. count-found _ _ n (sym (d .before .before .if4 .left)) f (ap numberIs (sym (c .enum-told .given .1)) ∙ d .read-number .ensures))
 
 returns-6 : tie.Need-returns-6
-unfolding numberIs
+unfolding numberIs newline sheetNumbers
 returns-6 c =
     let d = c .before .before .before .before in
     not-good _ (λ n f.
@@ -80,7 +85,7 @@ returns-6 c =
     omega arith)
 
 returns-7 : tie.Need-returns-7
-unfolding numberIs title
+unfolding numberIs title newline sheetNumbers
 returns-7 c =
     let d = c .before .before .before .before in
     let e = d .before .before .before .before .before in

@@ -5,7 +5,7 @@ use native.Mathlib.Omega.{arith}
 use lib.ListN.{take, drop}
 use Rattle.sheet.specs.Column.{columnNumber}
 use Rattle.sheet.specs.Line.{codeColumns, codeColumn}
-use Rattle.sheet.specs.Steps.{within}
+use Rattle.sheet.specs.Steps.{within, greatestCode}
 use borrow.Author.Needs.{needs}
 use Rattle.sheet.proofs.line.code_at.Statement.{statement}
 use Rattle.sheet.proofs.line.code_at.Tie as tie
@@ -34,7 +34,7 @@ unfolding codeColumn codeColumns
 returns c =
     let a = c .before .before .before .args in
     let size : a .at + 6 - a .at ≡ 6 = omega arith in
-    c .read-number .ensures ∙ ap (λ n. within 65535 (columnNumber (take n (drop (a .at) (a .line .now))))) size
+    c .read-number .ensures ∙ ap (λ n. within greatestCode (columnNumber (take n (drop (a .at) (a .line .now))))) size
 
 pub code-at-spec : {M : Type 1} → statement M
 code-at-spec =

@@ -4,8 +4,9 @@ use native.Mathlib.Omega.{arith}
 use lib.Seq.{length-take-le}
 use Rattle.colour.specs.Colour.{Red, Green, Blue, codeIn}
 use Rattle.sheet.specs.Answers.{lineAnswer}
-use Rattle.sheet.specs.Line.{tagColumns, codeColumns, redStart, greenStart, blueStart, lineNumbers}
-use Rattle.sheet.specs.Steps.{numberIs}
+use Rattle.sheet.specs.Computes.{sheetNumbers}
+use Rattle.sheet.specs.Line.{lineNumbers}
+use Rattle.sheet.specs.Steps.{numberIs, greatestTag, greatestCode}
 use Rattle.sheet.proofs.Laws.Digits.{within-some}
 use Rattle.sheet.proofs.Laws.Numbers.{line-length-is}
 use Rattle.sheet.proofs.Laws.Lines.{no-tag, no-code, all-numbers}
@@ -28,14 +29,14 @@ enum-told : tie.Need-enum-told
 enum-told c = search needs
 
 returns : tie.Need-returns
-unfolding numberIs lineAnswer lineNumbers tagColumns codeColumns redStart greenStart blueStart
+unfolding numberIs lineAnswer lineNumbers sheetNumbers
 returns c =
     let d = c .before .before in
     no-tag _ _ _ _ _ (ap numberIs (sym (c .enum-told .given .1)) ∙ d .read-number .ensures)
 
 code-at-requires : tie.Need-code-at-requires
-unfolding codeColumns
-code-at-requires c κs = omega (arith, line-length-is)
+unfolding sheetNumbers
+code-at-requires c κs = omega arith
 
 enum-known-red : tie.Need-enum-known-red
 enum-known-red c = search needs
@@ -44,14 +45,14 @@ enum-told-2 : tie.Need-enum-told-2
 enum-told-2 c = search needs
 
 returns-2 : tie.Need-returns-2
-unfolding numberIs lineAnswer lineNumbers tagColumns codeColumns redStart greenStart blueStart
+unfolding numberIs lineAnswer lineNumbers sheetNumbers
 returns-2 c =
     let d = c .before .before in
     no-code _ _ _ _ _ Red (ap numberIs (sym (c .enum-told2 .given .1)) ∙ d .code-at .ensures)
 
 code-at-requires-2 : tie.Need-code-at-requires-2
-unfolding codeColumns
-code-at-requires-2 c κs = omega (arith, line-length-is)
+unfolding sheetNumbers
+code-at-requires-2 c κs = omega arith
 
 enum-known-green : tie.Need-enum-known-green
 enum-known-green c = search needs
@@ -60,14 +61,14 @@ enum-told-3 : tie.Need-enum-told-3
 enum-told-3 c = search needs
 
 returns-3 : tie.Need-returns-3
-unfolding numberIs lineAnswer lineNumbers tagColumns codeColumns redStart greenStart blueStart
+unfolding numberIs lineAnswer lineNumbers sheetNumbers
 returns-3 c =
     let d = c .before .before in
     no-code _ _ _ _ _ Green (ap numberIs (sym (c .enum-told3 .given .1)) ∙ d .code-at2 .ensures)
 
 code-at-requires-3 : tie.Need-code-at-requires-3
-unfolding codeColumns
-code-at-requires-3 c κs = omega (arith, line-length-is)
+unfolding sheetNumbers
+code-at-requires-3 c κs = omega arith
 
 enum-known-blue : tie.Need-enum-known-blue
 enum-known-blue c = search needs
@@ -76,7 +77,7 @@ enum-told-4 : tie.Need-enum-told-4
 enum-told-4 c = search needs
 
 returns-4 : tie.Need-returns-4
-unfolding numberIs lineAnswer lineNumbers tagColumns codeColumns redStart greenStart blueStart
+unfolding numberIs lineAnswer lineNumbers sheetNumbers
 returns-4 c =
     let d = c .before .before in
     no-code _ _ _ _ _ Blue (ap numberIs (sym (c .enum-told4 .given .1)) ∙ d .code-at3 .ensures)
@@ -88,7 +89,7 @@ cast-t13 c =
     let e₂ = e₃ .before .before .before .before in
     let e₁ = e₂ .before .before .before .before in
     let e = e₁ .before .before .before .before in
-    omega (arith, within-some 4294967295 _ _ (ap numberIs (sym (e₁ .before .before .tag .given .1)) ∙ e .read-number .ensures) .1)
+    omega (arith, within-some greatestTag _ _ (ap numberIs (sym (e₁ .before .before .tag .given .1)) ∙ e .read-number .ensures) .1)
 
 cast-t14 : tie.Need-cast-t14
 unfolding numberIs
@@ -96,23 +97,23 @@ cast-t14 c =
     let e₃ = c .before .before .before in
     let e₂ = e₃ .before .before .before .before in
     let e₁ = e₂ .before .before .before .before in
-    omega (arith, within-some 65535 _ _ (ap numberIs (sym (e₂ .before .before .red .given .1)) ∙ e₁ .code-at .ensures) .1)
+    omega (arith, within-some greatestCode _ _ (ap numberIs (sym (e₂ .before .before .red .given .1)) ∙ e₁ .code-at .ensures) .1)
 
 cast-t15 : tie.Need-cast-t15
 unfolding numberIs
 cast-t15 c =
     let e₃ = c .before .before .before in
     let e₂ = e₃ .before .before .before .before in
-    omega (arith, within-some 65535 _ _ (ap numberIs (sym (e₃ .before .before .green .given .1)) ∙ e₂ .code-at2 .ensures) .1)
+    omega (arith, within-some greatestCode _ _ (ap numberIs (sym (e₃ .before .before .green .given .1)) ∙ e₂ .code-at2 .ensures) .1)
 
 cast-t16 : tie.Need-cast-t16
 unfolding numberIs
 cast-t16 c =
     let e₃ = c .before .before .before in
-    omega (arith, within-some 65535 _ _ (ap numberIs (sym (c .before .blue .given .1)) ∙ e₃ .code-at3 .ensures) .1)
+    omega (arith, within-some greatestCode _ _ (ap numberIs (sym (c .before .blue .given .1)) ∙ e₃ .code-at3 .ensures) .1)
 
 returns-5 : tie.Need-returns-5
-unfolding numberIs lineAnswer lineNumbers tagColumns codeColumns redStart greenStart blueStart codeIn
+unfolding numberIs lineAnswer lineNumbers sheetNumbers codeIn
 returns-5 c =
     let e₃ = c .before .before .before in
     let e₂ = e₃ .before .before .before .before in

@@ -4,28 +4,29 @@ use mathlib.Core.Path.{sym, _∙_}
 use Rattle.sheet.specs.declared.line.Reading.the-variants as R
 use Rattle.sheet.specs.Answers.{lineAnswer}
 use Rattle.sheet.specs.Column.{blank, newline}
-use Rattle.sheet.specs.Line.{tagColumns, codeColumns, nameColumns, redStart, greenStart, blueStart, blankAt, nameStart, newlineAt, lineLength, nameField}
+use Rattle.sheet.specs.Computes.{sheetNumbers}
+use Rattle.sheet.specs.Line.{nameField}
 use Rattle.sheet.proofs.Laws.Lines.{answer-is, other-length, no-blank, no-newline, no-name, has-name}
 use borrow.Author.Needs.{needs}
 use Rattle.sheet.proofs.line.read_line.Statement.{statement}
 use Rattle.sheet.proofs.line.read_line.Tie as tie
 
 returns : tie.Need-returns
-unfolding lineAnswer tagColumns codeColumns nameColumns redStart greenStart blueStart blankAt nameStart newlineAt lineLength
+unfolding lineAnswer sheetNumbers
 returns c = answer-is R.NotGood _ (other-length _ (c .if1 .taken))
 
 shared-slice-read-if2 : tie.Need-shared-slice-read-if2
 shared-slice-read-if2 c = search needs
 
 returns-2 : tie.Need-returns-2
-unfolding lineAnswer blank tagColumns codeColumns nameColumns redStart greenStart blueStart blankAt nameStart newlineAt lineLength
+unfolding lineAnswer blank sheetNumbers
 returns-2 c = answer-is R.NotGood _ (no-blank _ (c .if2 .taken))
 
 shared-slice-read-if3 : tie.Need-shared-slice-read-if3
 shared-slice-read-if3 c = search needs
 
 returns-3 : tie.Need-returns-3
-unfolding lineAnswer newline tagColumns codeColumns nameColumns redStart greenStart blueStart blankAt nameStart newlineAt lineLength
+unfolding lineAnswer newline sheetNumbers
 returns-3 c = answer-is R.NotGood _ (no-newline _ (c .if3 .taken))
 
 sub-name-length : tie.Need-sub-name-length
@@ -41,15 +42,15 @@ name-length-requires : tie.Need-name-length-requires
 name-length-requires c κs = search needs
 
 returns-4 : tie.Need-returns-4
-unfolding lineAnswer nameField tagColumns codeColumns nameColumns redStart greenStart blueStart blankAt nameStart newlineAt lineLength
+unfolding lineAnswer nameField sheetNumbers
 returns-4 c = answer-is R.NotGood _ (no-name _ (sym (c .if4 .taken) ∙ c .before .name-length .ensures))
 
 numbers-requires : tie.Need-numbers-requires
-unfolding tagColumns codeColumns nameColumns redStart greenStart blueStart blankAt nameStart newlineAt lineLength
+unfolding sheetNumbers
 numbers-requires c κs = c .before .before .before .before .before .before .before .if1 .left
 
 returns-5 : tie.Need-returns-5
-unfolding blank newline nameField tagColumns codeColumns nameColumns redStart greenStart blueStart blankAt nameStart newlineAt lineLength
+unfolding blank newline nameField sheetNumbers
 returns-5 c =
     let d = c .before .before in
     let f = d .before .before in

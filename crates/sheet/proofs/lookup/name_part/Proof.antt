@@ -4,6 +4,7 @@ use mathlib.Core.Logic.{⊎-elim}
 use native.Mathlib.Omega.{arith}
 use Rattle.sheet.specs.Answers.{headerAnswer, lineAnswer}
 use Rattle.sheet.specs.Sheet.{emptyPart}
+use Rattle.sheet.specs.Computes.{sheetNumbers}
 use Rattle.sheet.proofs.Laws.Numbers.{line-start-is}
 use Rattle.sheet.proofs.Laws.Lookup.{SoFar, header-says, line-says, no-header, begins, bad-line, ends, found-before, another-tag, finds}
 use borrow.Author.Needs.{needs}
@@ -36,6 +37,7 @@ loop-holds c =
     begins _ _ _ (header-says _ _ _ (d .count .given .1) (d .before .before .read-header .ensures))
 
 line-at-requires : tie.Need-line-at-requires Inv-loop μ-loop
+unfolding sheetNumbers
 line-at-requires c κs = omega (arith, line-start-is (suc (c .before .loop .k)))
 
 enum-known-line : tie.Need-enum-known-line Inv-loop μ-loop
@@ -51,11 +53,13 @@ returns-2 c =
     bad-line (d .before .before .loop .inv) (d .before .loop-test .taken) (line-says _ _ _ (c .enum-told2 .given .1) (d .line-at .ensures))
 
 line-start-requires : tie.Need-line-start-requires Inv-loop μ-loop
+unfolding sheetNumbers
 line-start-requires c κs =
     let k = c .before .before .before .before .before .before .before .before .loop .k in
     omega (arith, line-start-is k)
 
 add-start : tie.Need-add-start Inv-loop μ-loop
+unfolding sheetNumbers
 add-start c =
     let k = c .before .before .before .before .before .before .before .before .before .loop .k in
     omega (arith, line-start-is k)
@@ -67,7 +71,7 @@ loop-less : tie.Need-loop-less Inv-loop μ-loop
 loop-less c = search needs
 
 loop-again : tie.Need-loop-again Inv-loop μ-loop
-unfolding lineAnswer
+unfolding lineAnswer sheetNumbers
 loop-again c =
     let d = c .before .before in
     let b = d .before .before .before in

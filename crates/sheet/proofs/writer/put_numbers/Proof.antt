@@ -1,6 +1,6 @@
 -- `writer::put_numbers`: the four numbers are written one after another.
 use native.Mathlib.Omega.{arith}
-use Rattle.sheet.specs.Line.{tagColumns, codeColumns, redStart, greenStart, blueStart, blankAt}
+use Rattle.sheet.specs.Computes.{sheetNumbers}
 use Rattle.sheet.proofs.Laws.Writing.{numbers-written}
 use borrow.Author.Needs.{needs}
 use Rattle.sheet.proofs.writer.put_numbers.Statement.{statement}
@@ -10,35 +10,35 @@ cast-put-number-at : tie.Need-cast-put-number-at
 cast-put-number-at c = search needs
 
 put-number-at-requires : tie.Need-put-number-at-requires
-unfolding tagColumns codeColumns redStart greenStart blueStart blankAt
+unfolding sheetNumbers
 put-number-at-requires c κs = omega arith
 
 cast-put-number-at-2 : tie.Need-cast-put-number-at-2
 cast-put-number-at-2 c = search needs
 
 put-number-at-requires-2 : tie.Need-put-number-at-requires-2
-unfolding tagColumns codeColumns redStart greenStart blueStart blankAt
+unfolding sheetNumbers
 put-number-at-requires-2 c κs = omega arith
 
 cast-put-number-at-3 : tie.Need-cast-put-number-at-3
 cast-put-number-at-3 c = search needs
 
 put-number-at-requires-3 : tie.Need-put-number-at-requires-3
-unfolding tagColumns codeColumns redStart greenStart blueStart blankAt
+unfolding sheetNumbers
 put-number-at-requires-3 c κs = omega arith
 
 cast-put-number-at-4 : tie.Need-cast-put-number-at-4
 cast-put-number-at-4 c = search needs
 
 put-number-at-requires-4 : tie.Need-put-number-at-requires-4
-unfolding tagColumns codeColumns redStart greenStart blueStart blankAt
+unfolding sheetNumbers
 put-number-at-requires-4 c κs = omega arith
 
 same-length : tie.Need-same-length
 same-length c = search needs
 
 returns : tie.Need-returns
-unfolding tagColumns codeColumns redStart greenStart blueStart blankAt
+unfolding sheetNumbers
 returns c =
     let e₄ = c .before .before in
     let e₃ = e₄ .before .before .before .before .before in

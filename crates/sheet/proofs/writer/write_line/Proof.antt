@@ -1,6 +1,7 @@
 -- `writer::write_line`: the first no gives the answer; where there is none, put_line wrote the line.
 use mathlib.Core.Path.{refl, ap}
 use Rattle.sheet.specs.Answers.{writtenNumber}
+use Rattle.sheet.specs.Computes.{sheetNumbers}
 use Rattle.sheet.proofs.Laws.Names.{name-good}
 use Rattle.sheet.proofs.Laws.Writing.{refused, left-alone, all-yes, line-stands}
 use borrow.Author.Needs.{needs}
@@ -20,7 +21,7 @@ enum-told : tie.Need-enum-told
 enum-told c = search needs
 
 put-line-requires : tie.Need-put-line-requires
-unfolding writtenNumber
+unfolding writtenNumber sheetNumbers
 put-line-requires c κs =
     let d = c .before .before .before in
     let a = d .before .before .before .before .before .args in
@@ -33,13 +34,14 @@ same-length : tie.Need-same-length
 same-length c = search needs
 
 returns : tie.Need-returns
-unfolding writtenNumber
+unfolding writtenNumber sheetNumbers
 returns c =
     let e = c .before .before .before .before in
     let d = e .before .before in
     line-stands _ _ _ _ _ _ _ (d .before .before .codes-fit .ensures) (d .before .name-good .ensures) refl (d .first-no .ensures) (ap writtenNumber (e .enum-told .given .1)) _ (c .before .before .put-line .ensures)
 
 returns-2 : tie.Need-returns-2
+unfolding sheetNumbers
 returns-2 c =
     let d = c .before in
     left-alone _ _ _ _ _ _ _ (d .before .before .codes-fit .ensures) (d .before .name-good .ensures) refl (d .first-no .ensures) (refused _ (c .match .keys2))
