@@ -14,3 +14,5 @@ pub mod Digits
 pub mod Columns
 pub mod Lines
 pub mod Writing
+pub mod Exact
+pub mod ExactSheets

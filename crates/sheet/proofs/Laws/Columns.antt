@@ -14,11 +14,11 @@ padded : {k m : ℕ} (t : List ℕ) → k ≡ m → replicate k blank ++ t ≡ r
 padded t e = ap (λ (n : ℕ). replicate n blank ++ t) e
 
 -- The last digit of a number below 10 has blanks before it, that of another the digits of a tenth of it.
-column-last : (w n : ℕ) → n < 10 → columnOf (suc w) n ≡ replicate w blank ++ ((48 + n) ∷ [])
+pub column-last : (w n : ℕ) → n < 10 → columnOf (suc w) n ≡ replicate w blank ++ ((48 + n) ∷ [])
 unfolding columnOf decimal
 column-last w n h = let e : suc w - 1 ≡ w = omega arith in rw (lt-ltb n 10 h, decimal) (padded ((48 + n) ∷ []) e)
 
-column-more : (w n : ℕ) → 10 ≤ n → columnOf (suc w) n ≡ columnOf w (n / 10) ++ ((48 + n % 10) ∷ [])
+pub column-more : (w n : ℕ) → 10 ≤ n → columnOf (suc w) n ≡ columnOf w (n / 10) ++ ((48 + n % 10) ∷ [])
 unfolding columnOf decimal
 column-more w n h =
     let tenth : List ℕ = decimal w (n / 10) in

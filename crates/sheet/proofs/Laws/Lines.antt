@@ -31,24 +31,26 @@ unfolding lineAnswer readLine present firstNo
 answer-is (R.Good l) s e = rw (sym e)
 answer-is R.NotGood s e = rw (sym e)
 
--- A line that says something has all its numbers: the tag, and a code in each channel.
-record Numbers (t : Option ℕ) (f : Channel → Option ℕ) (l : Line) : Type 0 where
-  tag : t ≡ some (l .sample .tag)
-  code : (h : Channel) → f h ≡ some (codeIn h (l .sample .colour))
+-- A line that says something has all its numbers: the tag, a code in each channel, and the name's length.
+pub record Numbers (t : Option ℕ) (f : Channel → Option ℕ) (n : ℕ) (l : Line) : Type 0 where
+  pub tag : t ≡ some (l .sample .tag)
+  pub code : (h : Channel) → f h ≡ some (codeIn h (l .sample .colour))
+  pub size : n ≡ l .«name_length»
 
 abbrev pub codes : Option ℕ → Option ℕ → Option ℕ → Channel → Option ℕ
 codes r g b Red = r
 codes r g b Green = g
 codes r g b Blue = b
 
-of-line : (k l : Line) → k ≡ l → Numbers (some (k .sample .tag)) (codes (some (k .sample .colour .red)) (some (k .sample .colour .green)) (some (k .sample .colour .blue))) l
+of-line : (k l : Line) → k ≡ l → Numbers (some (k .sample .tag)) (codes (some (k .sample .colour .red)) (some (k .sample .colour .green)) (some (k .sample .colour .blue))) (k .«name_length») l
 unfolding codeIn
 of-line k l e = record {
   tag = ap (λ (x : Line). some (x .sample .tag)) e;
   code = elim [ Red ↦ ap (λ (x : Line). some (x .sample .colour .red)) e | Green ↦ ap (λ (x : Line). some (x .sample .colour .green)) e | Blue ↦ ap (λ (x : Line). some (x .sample .colour .blue)) e ];
+  size = ap (λ (x : Line). x .«name_length») e;
 }
 
-says : (t r g b : Option ℕ) (n : ℕ) (l : Line) → lineFrom t r g b n ≡ some l → Numbers t (codes r g b) l
+pub says : (t r g b : Option ℕ) (n : ℕ) (l : Line) → lineFrom t r g b n ≡ some l → Numbers t (codes r g b) n l
 unfolding lineFrom
 says none r g b n l e = absurd (Option·none-ne-some l e)
 says (some t) none g b n l e = absurd (Option·none-ne-some l e)
@@ -56,7 +58,7 @@ says (some t) (some r) none b n l e = absurd (Option·none-ne-some l e)
 says (some t) (some r) (some g) none n l e = absurd (Option·none-ne-some l e)
 says (some t) (some r) (some g) (some b) n l e = go (isTag t && codesFit (record { red = r; green = g; blue = b })) refl
   where
-    go : (q : Bool) → (isTag t && codesFit (record { red = r; green = g; blue = b })) ≡ q → Numbers (some t) (codes (some r) (some g) (some b)) l
+    go : (q : Bool) → (isTag t && codesFit (record { red = r; green = g; blue = b })) ≡ q → Numbers (some t) (codes (some r) (some g) (some b)) n l
     go true h =
         let line : Line = record { sample = record { tag = t; colour = record { red = r; green = g; blue = b } }; «name_length» = n } in
         let same : some line ≡ some l = rw (h, lineFrom) at e in

@@ -1,6 +1,6 @@
 -- The name lookup: a sheet's lines gone through one after another (document 01, "Sheets").
 use Prim.Native.Nat.{ℕ, zero, suc, _+_, _-_, _≤_, _<_}
-use mathlib.Core.Bool.{Bool, true, false, _&&_, and-eq-true-iff}
+use mathlib.Core.Bool.{Bool, true, false}
 use mathlib.Core.List.{List, _∷_}
 use mathlib.Core.Option.{Option, none, some}
 use mathlib.Core.Path.{_≡_, refl, sym, ap, _∙_}
@@ -11,19 +11,18 @@ use borrow.Rule.Slice.PartAt.{slPart}
 use borrow.Rule.Slice.Shared.{byByte}
 use denote.Ref.{RefT, ptr, now}
 use lib.Dec.{eqb}
-use lib.ListN.{length, getD}
+use lib.ListN.{length}
 use Rattle.sheet.specs.declared.header.Header.{Header}
 use Rattle.sheet.specs.declared.line.Line.{Line}
 use Rattle.sheet.specs.declared.line.Reading.{Reading}
 use Rattle.sheet.specs.declared.lookup.Part.{Part}
 use Rattle.sheet.specs.Answers.{headerAnswer, lineAnswer}
-use Rattle.sheet.specs.Column.{blank, newline}
-use Rattle.sheet.specs.Line.{blankAt, newlineAt, lineLength, nameColumns, nameStart, leading, nameGood, nameFieldGood, nameField, lineFormed, lineNumbers, lineOf, LineAnswer, readLine}
+use Rattle.sheet.specs.Line.{nameColumns, nameStart, lineOf, LineAnswer, readLine}
 use Rattle.sheet.specs.Sheet.{lineStart, lineCount, HeaderAnswer, readHeader, linePart, linesFrom, linesBy, linesOf, emptyPart, bytesOf, allGood, namePartFrom, namePartOf, namePart, NameIn}
+use Rattle.sheet.proofs.Laws.Exact.{line-name-good, line-name-size}
 use Rattle.sheet.proofs.Laws.Header.{formed}
 use Rattle.sheet.proofs.Laws.Names.{name-good}
 use Rattle.sheet.proofs.Laws.Numbers.{name-start-is, line-start-is}
-use Rattle.sheet.proofs.Laws.Ranges.{from-holds}
 
 -- What the answers of a header and of a line say.
 pub header-says : (r x : Header) (s : List ℕ) → r ≡ x → headerAnswer r ≡ readHeader s → headerAnswer x .lines ≡ lineCount s
@@ -35,30 +34,11 @@ unfolding readLine
 line-says r x s same e = ap (λ (a : LineAnswer). a .line) (ap lineAnswer (sym same) ∙ e)
 
 -- The name of a good line has 1 to 32 bytes.
-Named : Option Line → Type 0
-Named none = Unit {0}
-Named (some l) = (1 ≤ l .«name_length») × (l .«name_length» ≤ nameColumns)
-
-formed-name : (s : List ℕ) → lineFormed s ≡ true → nameGood (leading (nameField s)) ≡ true
-unfolding lineFormed nameFieldGood
-formed-name s e =
-    let front : Bool = eqb (length s) lineLength && eqb (getD s blankAt 0) blank in
-    let h = and-eq-true-iff (front && nameFieldGood (nameField s)) (eqb (getD s newlineAt 0) newline) .0 e in
-    and-eq-true-iff (nameGood (leading (nameField s))) _ .0 (and-eq-true-iff front (nameFieldGood (nameField s)) .0 (h .0) .1) .0
-
-line-named : (s : List ℕ) → Named (lineOf s)
-unfolding Named lineOf lineNumbers
-line-named s = go (lineFormed s) refl
-  where
-    go : (q : Bool) → lineFormed s ≡ q → Named (lineOf s)
-    go true e =
-        let h = name-good (leading (nameField s)) (formed-name s e) in
-        rw (e, lineOf) (from-holds Named _ _ _ _ _ tt (λ l n r. (omega arith, omega arith)))
-    go false e = rw (e, lineOf) tt
-
 name-length : (s : List ℕ) (l : Line) → lineOf s ≡ some l → (1 ≤ l .«name_length») × (l .«name_length» ≤ nameColumns)
-unfolding Named
-name-length s l e = rw e at (line-named s)
+name-length s l e =
+    let size = line-name-size s l e in
+    let g = name-good _ (line-name-good s l e) in
+    (omega (arith, g .named), omega (arith, g .fits))
 
 -- The part found already, or else another; no size says that none is found.
 orElse : Part → Part → Part

@@ -22,11 +22,11 @@ pub fill-all : (n v : ℕ) (d : List ℕ) → n ≡ length d → replicate n v +
 fill-all n v d e = rw e (ap (λ (l : List ℕ). replicate (length d) v ++ l) (drop-length d) ∙ append-nil (replicate (length d) v))
 
 -- A blank is passed over; at any other byte the blanks end.
-skip : (x : ℕ) (rest : List ℕ) → x ≡ blank → trimmed (x ∷ rest) ≡ trimmed rest
+pub skip : (x : ℕ) (rest : List ℕ) → x ≡ blank → trimmed (x ∷ rest) ≡ trimmed rest
 unfolding trimmed
 skip x rest e = rw (eq-eqb x blank e, trimmed)
 
-stay : (x : ℕ) (rest : List ℕ) → (x ≡ blank → ⊥) → trimmed (x ∷ rest) ≡ x ∷ rest
+pub stay : (x : ℕ) (rest : List ℕ) → (x ≡ blank → ⊥) → trimmed (x ∷ rest) ≡ x ∷ rest
 unfolding trimmed
 stay x rest e = rw (ne-eqb x blank e, trimmed)
 
