@@ -1,18 +1,10 @@
--- Laws on the definitions of sheets.
-pub mod Decimals
-pub mod Names
+-- Laws on the definitions of sheets, and what the proofs of the functions need of them.
 pub mod Numbers
-pub mod Ranges
-pub mod ReadBack
-pub mod Sheets
-pub mod Written
 pub mod Text
+pub mod Names
 pub mod Parts
-pub mod Header
-pub mod Lookup
-pub mod Digits
-pub mod Columns
-pub mod Lines
+pub mod Ranges
+pub mod Reading
 pub mod Writing
+pub mod RoundTrip
 pub mod Exact
-pub mod ExactSheets

@@ -10,7 +10,7 @@ use borrow.Author.Tests.{leb-true, eqb-true, le-leb, lt-leb}
 use native.Mathlib.Omega.{arith}
 use Rattle.sheet.specs.Column.{blank, trimmed}
 use Rattle.sheet.specs.Line.{nameColumns, nameByte, leading, nameGood, nameFieldGood}
-use Rattle.sheet.proofs.Laws.Decimals.{trimmed-blanks}
+use Rattle.sheet.proofs.Laws.RoundTrip.Columns.{trimmed-blanks}
 
 -- What the test of a name says: it has a byte, it fits its columns, and all of it is name bytes.
 pub record GoodName (name : List ℕ) : Type 0 where

@@ -1,8 +1,8 @@
--- `column::decimal`: each return by the tests that led there, by laws of Laws.Digits.
+-- `column::decimal`: each return by the tests that led there, by laws of Laws.Reading.Digits.
 use mathlib.Core.Logic.{⊎-elim}
 use mathlib.Core.Path.{sym, ap, _∙_}
 use Rattle.sheet.specs.Steps.{numberIs, within}
-use Rattle.sheet.proofs.Laws.Digits.{within-none, decimal-empty, leading-zero, decimal-single, decimal-plain}
+use Rattle.sheet.proofs.Laws.Reading.Digits.{within-none, decimal-empty, leading-zero, decimal-single, decimal-plain}
 use borrow.Author.Needs.{needs}
 use Rattle.sheet.proofs.column.decimal.Statement.{statement}
 use Rattle.sheet.proofs.column.decimal.Tie as tie

@@ -5,7 +5,7 @@ use native.Mathlib.Omega.{arith}
 use lib.ListN.{length, drop}
 use Rattle.sheet.specs.Column.{digitsAfter}
 use Rattle.sheet.specs.Steps.{numberIs, within}
-use Rattle.sheet.proofs.Laws.Digits.{digits-stop, digits-more, digits-end}
+use Rattle.sheet.proofs.Laws.Reading.Digits.{digits-stop, digits-more, digits-end}
 use borrow.Author.Needs.{needs}
 use Rattle.sheet.proofs.column.digits.Statement.{statement}
 use Rattle.sheet.proofs.column.digits.Tie as tie

@@ -6,7 +6,7 @@ use native.Mathlib.Omega.{arith}
 use lib.ListN.{length, drop, set, length-set}
 use lib.Seq.{length-front, length-take-le}
 use Rattle.sheet.specs.Column.{columnOf}
-use Rattle.sheet.proofs.Laws.Columns.{none-written, all-written, digit-last, digit-more}
+use Rattle.sheet.proofs.Laws.Writing.Columns.{none-written, all-written, digit-last, digit-more}
 use borrow.Author.Needs.{needs}
 use Rattle.sheet.proofs.column.put_number.Statement.{statement}
 use Rattle.sheet.proofs.column.put_number.Tie as tie

@@ -1,4 +1,4 @@
--- `header::read_header`: each return by the tests that led there, by laws of Laws.Header.
+-- `header::read_header`: each return by the tests that led there, by laws of Laws.Reading.Header.
 use mathlib.Core.Option.{some}
 use mathlib.Core.Path.{sym, ap, _∙_}
 use native.Mathlib.Omega.{arith}
@@ -7,8 +7,8 @@ use Rattle.sheet.specs.Steps.{numberIs}
 use Rattle.sheet.specs.Sheet.{title}
 use Rattle.sheet.specs.Computes.{sheetNumbers}
 use Rattle.sheet.specs.Column.{newline}
-use Rattle.sheet.proofs.Laws.Digits.{within-some}
-use Rattle.sheet.proofs.Laws.Header.{good, not-good, not-titled, count-found, count-is}
+use Rattle.sheet.proofs.Laws.Reading.Digits.{within-some}
+use Rattle.sheet.proofs.Laws.Reading.Header.{good, not-good, not-titled, count-found, count-is}
 use borrow.Author.Needs.{needs}
 use lib.Seq.{length-take-le}
 use Rattle.sheet.proofs.header.read_header.Statement.{statement}

@@ -1,4 +1,4 @@
--- `line::read_line`: each return by the tests that led there, by laws of Laws.Lines.
+-- `line::read_line`: each return by the tests that led there, by laws of Laws.Reading.Lines.
 use Prim.Native.Nat.{_-_}
 use mathlib.Core.Path.{sym, _∙_}
 use Rattle.sheet.specs.declared.line.Reading.the-variants as R
@@ -6,7 +6,7 @@ use Rattle.sheet.specs.Answers.{lineAnswer}
 use Rattle.sheet.specs.Column.{blank, newline}
 use Rattle.sheet.specs.Computes.{sheetNumbers}
 use Rattle.sheet.specs.Line.{nameField}
-use Rattle.sheet.proofs.Laws.Lines.{answer-is, other-length, no-blank, no-newline, no-name, has-name}
+use Rattle.sheet.proofs.Laws.Reading.Lines.{answer-is, other-length, no-blank, no-newline, no-name, has-name}
 use borrow.Author.Needs.{needs}
 use Rattle.sheet.proofs.line.read_line.Statement.{statement}
 use Rattle.sheet.proofs.line.read_line.Tie as tie

@@ -6,7 +6,7 @@ use Rattle.sheet.specs.Answers.{headerAnswer, lineAnswer}
 use Rattle.sheet.specs.Sheet.{emptyPart}
 use Rattle.sheet.specs.Computes.{sheetNumbers}
 use Rattle.sheet.proofs.Laws.Numbers.{line-start-is}
-use Rattle.sheet.proofs.Laws.Lookup.{SoFar, header-says, line-says, no-header, begins, bad-line, ends, found-before, another-tag, finds}
+use Rattle.sheet.proofs.Laws.Reading.Lookup.{SoFar, header-says, line-says, no-header, begins, bad-line, ends, found-before, another-tag, finds}
 use borrow.Author.Needs.{needs}
 use Rattle.sheet.proofs.lookup.name_part.Statement.{statement}
 use Rattle.sheet.proofs.lookup.name_part.Tie as tie

@@ -1,7 +1,7 @@
 -- `writer::first_no`: each return by the questions that led there.
 use borrow.Author.Tests.{not-true, not-false}
 use Rattle.sheet.specs.Answers.{writtenNumber}
-use Rattle.sheet.proofs.Laws.Writing.{no-codes, no-name, no-room, no-no}
+use Rattle.sheet.proofs.Laws.Writing.Lines.{no-codes, no-name, no-room, no-no}
 use Rattle.sheet.proofs.writer.first_no.Statement.{statement}
 use Rattle.sheet.proofs.writer.first_no.Tie as tie
 

@@ -7,7 +7,7 @@ use Rattle.sheet.specs.Column.{blank, newline}
 use Rattle.sheet.specs.Computes.{sheetNumbers}
 use Rattle.sheet.specs.Line.{nameColumns, blankAt, nameStart}
 use Rattle.sheet.proofs.Laws.Numbers.{line-length-is}
-use Rattle.sheet.proofs.Laws.Writing.{name-room, line-written}
+use Rattle.sheet.proofs.Laws.Writing.Lines.{name-room, line-written}
 use borrow.Author.Needs.{needs}
 use Rattle.sheet.proofs.writer.put_line.Statement.{statement}
 use Rattle.sheet.proofs.writer.put_line.Tie as tie

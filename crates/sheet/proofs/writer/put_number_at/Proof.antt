@@ -1,7 +1,7 @@
 -- `writer::put_number_at`: the part that was lent comes back written.
 use Prim.Native.Nat.{_+_, _-_}
 use borrow.Rule.Slice.PartMut.{same-len-mid}
-use Rattle.sheet.proofs.Laws.Writing.{column-put}
+use Rattle.sheet.proofs.Laws.Writing.Lines.{column-put}
 use borrow.Author.Needs.{needs}
 use Rattle.sheet.proofs.writer.put_number_at.Statement.{statement}
 use Rattle.sheet.proofs.writer.put_number_at.Tie as tie

@@ -15,9 +15,9 @@ use Rattle.colour.proofs.Laws.Questions.{asked}
 use Rattle.sheet.specs.Column.{blank, newline, columnNumber, columnOf}
 use Rattle.sheet.specs.Line.{tagColumns, codeColumns, nameColumns, redStart, greenStart, blueStart, blankAt, nameStart, newlineAt, lineLength}
 use Rattle.sheet.specs.Line.{nameGood, lineFrom, nameField, lineFormed, codeColumn, lineNumbers, lineOf, numberColumns, lineBytes, writeNumber, writeLine}
-use Rattle.sheet.proofs.Laws.Decimals.{column-at}
+use Rattle.sheet.proofs.Laws.RoundTrip.Columns.{column-at}
 use Rattle.sheet.proofs.Laws.Names.{name-good, filled, filled-length, filled-name, filled-good}
-use Rattle.sheet.proofs.Laws.Written.{column-length, line-bytes-length}
+use Rattle.sheet.proofs.Laws.Writing.Lengths.{column-length, line-bytes-length}
 
 -- Where a channel's code starts.
 codeStart : Channel → ℕ

@@ -11,7 +11,7 @@ use borrow.Author.Tests.{ltb-true, ltb-false, le-leb, ne-eqb}
 use native.Mathlib.Nat.{pow-suc}
 use native.Mathlib.Omega.{arith}
 use Rattle.sheet.specs.Column.{blank, trimmed, digitsAfter, decimalIn, columnNumber, decimal, columnOf}
-use Rattle.sheet.proofs.Laws.Written.{column-length}
+use Rattle.sheet.proofs.Laws.Writing.Lengths.{column-length}
 
 -- Blanks before a text are left out.
 pub trimmed-blanks : (k : ℕ) (s : List ℕ) → trimmed (replicate k blank ++ s) ≡ trimmed s

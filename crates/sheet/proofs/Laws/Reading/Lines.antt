@@ -17,7 +17,7 @@ use Rattle.sheet.specs.declared.line.Reading.{Reading}
 use Rattle.sheet.specs.declared.line.Reading.the-variants as R
 use Rattle.sheet.specs.Answers.{lineAnswer}
 use Rattle.sheet.specs.Column.{blank, newline, trimmed, present}
-use Rattle.sheet.proofs.Laws.Digits.{within-yes, within-some}
+use Rattle.sheet.proofs.Laws.Reading.Digits.{within-yes, within-some}
 use Rattle.sheet.proofs.Laws.Text.{leading-twice, trimmed-most}
 use Rattle.sheet.proofs.Laws.Names.{name-good}
 use Rattle.sheet.proofs.Laws.Ranges.{GoodRange, Ranged, from-holds}

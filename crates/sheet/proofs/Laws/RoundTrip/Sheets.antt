@@ -15,11 +15,11 @@ use Rattle.sheet.specs.Column.{newline, columnNumber, columnOf}
 use Rattle.sheet.specs.Line.{nameStart, lineLength, nameGood, lineOf, lineBytes}
 use Rattle.sheet.specs.Sheet.{title, sameBytes, countColumns, headerLength, lineStart, countIf, lineCount, linePart, linesFrom, linesBy, linesOf}
 use Rattle.sheet.specs.Sheet.{emptyPart, bytesOf, allGood, namePartFrom, namePartOf, namePart, Entry, headerBytes, linesBytes, sheetBytes}
-use Rattle.sheet.proofs.Laws.Decimals.{part-at, column-at}
+use Rattle.sheet.proofs.Laws.RoundTrip.Columns.{part-at, column-at}
 use Rattle.sheet.proofs.Laws.Names.{name-good}
 use Rattle.sheet.proofs.Laws.Numbers.{line-length-is}
-use Rattle.sheet.proofs.Laws.Written.{column-length, line-bytes-length}
-use Rattle.sheet.proofs.Laws.ReadBack.{line-reads, name-stands}
+use Rattle.sheet.proofs.Laws.Writing.Lengths.{column-length, line-bytes-length}
+use Rattle.sheet.proofs.Laws.RoundTrip.Lines.{line-reads, name-stands}
 
 -- An entry is good when tag and codes are in range and the name is good.
 unfoldable pub entryGood : Entry → Bool

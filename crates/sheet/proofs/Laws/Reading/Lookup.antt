@@ -19,8 +19,8 @@ use Rattle.sheet.specs.declared.lookup.Part.{Part}
 use Rattle.sheet.specs.Answers.{headerAnswer, lineAnswer}
 use Rattle.sheet.specs.Line.{nameColumns, nameStart, lineOf, LineAnswer, readLine}
 use Rattle.sheet.specs.Sheet.{lineStart, lineCount, HeaderAnswer, readHeader, linePart, linesFrom, linesBy, linesOf, emptyPart, bytesOf, allGood, namePartFrom, namePartOf, namePart, NameIn}
-use Rattle.sheet.proofs.Laws.Exact.{line-name-good, line-name-size}
-use Rattle.sheet.proofs.Laws.Header.{formed}
+use Rattle.sheet.proofs.Laws.Exact.Lines.{line-name-good, line-name-size}
+use Rattle.sheet.proofs.Laws.Reading.Header.{formed}
 use Rattle.sheet.proofs.Laws.Names.{name-good}
 use Rattle.sheet.proofs.Laws.Numbers.{name-start-is, line-start-is}
 

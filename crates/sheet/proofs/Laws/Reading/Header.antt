@@ -15,7 +15,7 @@ use Rattle.sheet.specs.Column.{newline, columnNumber, present}
 use Rattle.sheet.specs.Line.{lineLength}
 use Rattle.sheet.specs.Steps.{within}
 use Rattle.sheet.specs.Sheet.{title, sameBytes, countColumns, lineStart, countIf, lineCount, readHeader, linePart}
-use Rattle.sheet.proofs.Laws.Digits.{within-some, within-yes}
+use Rattle.sheet.proofs.Laws.Reading.Digits.{within-some, within-yes}
 use Rattle.sheet.proofs.Laws.Numbers.{line-length-is, line-start-is}
 
 -- What a good header of n lines has: the title, the count after it, a newline, and as many bytes after that as the lines take.
