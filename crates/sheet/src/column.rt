@@ -3,7 +3,6 @@ use crate::text::blanks;
 use crate::text::put_blanks;
 ghost use mathlib.Core.List.{[], _∷_};
 ghost use mathlib.Core.Path.{_≡_};
-ghost use Prim.Native.Nat.{_+_, _*_, _<_, _≤_};
 ghost use lib.ListN.{length};
 ghost use Rattle.sheet.specs.Column.{digitsAfter, decimalIn, columnNumber, columnOf};
 ghost use Rattle.sheet.specs.Steps.{numberIs, within};

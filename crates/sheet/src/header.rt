@@ -6,7 +6,7 @@ use crate::line::Reading;
 use crate::line::read_line;
 use crate::text::same;
 ghost use mathlib.Core.Path.{_≡_};
-ghost use Prim.Native.Nat.{suc, _≤_};
+ghost use Prim.Native.Nat.{suc, _≤_, _<_, _^_};
 ghost use lib.ListN.{length};
 ghost use Rattle.sheet.specs.Answers.{headerAnswer, lineAnswer};
 ghost use Rattle.sheet.specs.Line.{readLine};
@@ -56,13 +56,13 @@ pub fn read_header(sheet: &[u8]) -> Header
 
 // Where line k starts.
 pub fn line_start(k: usize) -> usize
-    requires { ⌜ lineStart k ≤ 0xffff_ffff_ffff_ffff ⌝ }
+    requires { ⌜ lineStart k < 2 ^ 64 ⌝ }
     ensures { λ r. ⌜ r ≡ lineStart k ⌝ }
 {
     HEADER_LENGTH + LINE_LENGTH * k
 }
 
-// Line k of a sheet, handed on as a part of it that starts in its middle.
+// What line k of a sheet says. The line is handed on as a part of the sheet that starts in its middle.
 pub fn line_at(sheet: &[u8], k: usize) -> Reading
     requires { ⌜ lineStart (suc k) ≤ length (now sheet) ⌝ }
     ensures { λ r. ⌜ lineAnswer r ≡ readLine (linePart (now (sheet .entry)) k) ⌝ }

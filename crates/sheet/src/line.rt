@@ -50,7 +50,7 @@ pub enum Reading {
     NotGood,
 }
 
-// The length of the name in its columns, 0 where they are not a name and blanks after.
+// The length of the name in its columns, 0 where they are not a name and blanks after: a good name has a byte.
 fn name_length(field: &[u8]) -> usize
     ensures { λ r. ⌜ r ≡ nameLengthIn (now (field .entry)) ⌝ }
 {

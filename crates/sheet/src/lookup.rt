@@ -15,7 +15,8 @@ pub struct Part {
 }
 
 // The part of a sheet that holds the name in the first line with the tag; the empty part if there is none, or if the header
-// or any line is not good.
+// or any line is not good. A line after the one wanted can be bad, so all are read. A good name has a byte, so a size of 0
+// says that none is found yet.
 pub fn name_part(sheet: &[u8], tag: u32) -> Part
     ensures { λ r. ⌜ r ≡ namePart (now (sheet .entry)) tag ⌝ }
 {
@@ -40,7 +41,7 @@ pub fn name_part(sheet: &[u8], tag: u32) -> Part
     Part { start, size }
 }
 
-// The same part of the caller's own slice: an exported call.
+// That part of the caller's own slice: an exported call.
 pub fn name_of(sheet: &[u8], tag: u32) -> &[u8]
     ensures { λ r. ⌜ NameIn (sheet .entry) tag r ⌝ }
 {

@@ -51,7 +51,7 @@ formed s n e =
     let t = and-eq-true-iff _ _ .0 (h .0) in
     record { titled = t .0; ended = eqb-true _ _ (t .1); count = h .1; whole = h .2 }
 
-counted : (s : List ℕ) (n : ℕ) → Formed s n → lineCount s ≡ some n
+pub counted : (s : List ℕ) (n : ℕ) → Formed s n → lineCount s ≡ some n
 unfolding lineCount countIf
 counted s n f = rw (f .titled, eq-eqb _ _ (f .ended), f .count, countIf, eq-eqb (length s) (lineStart n) (f .whole))
 
