@@ -131,7 +131,7 @@ module _ (s : Sample) (name : List ℕ) where
 -- Written over the bytes lent.
 module _ (s : Sample) (name lent : List ℕ) where
   -- What is accepted has its codes in range and a good name.
-  accepted : writeLine s name lent .number ≡ 0 → (codesFit (s .colour) ≡ true) × (nameGood name ≡ true)
+  pub accepted : writeLine s name lent .number ≡ 0 → (codesFit (s .colour) ≡ true) × (nameGood name ≡ true)
   unfolding writeLine writeNumber
   accepted z =
       let codes = asked 4 (codesFit (s .colour)) _ (λ e. omega arith) z in

@@ -1,0 +1,2 @@
+-- Laws on the round trip.
+pub mod Trip

@@ -1,0 +1,2 @@
+-- What the round trip compares.
+pub mod Same
