@@ -81,7 +81,8 @@ uint32_t hbx_line(uint32_t tag, uint32_t red, uint32_t green, uint32_t blue,
  * sheet: the *length bytes from sheet + *start on. No null byte follows it.
  *
  * Both get 0 where no line has the tag, and where the header or any line is not good, also
- * one after the line with the tag. Where the name is found, *length is 1 to 32.
+ * one after the line with the tag. Where the name is found, *length is 1 to 32. Each call reads
+ * the whole sheet.
  */
 void hbx_name(const uint8_t *sheet, size_t sheet_len, uint32_t tag, size_t *start, size_t *length);
 

@@ -206,6 +206,23 @@ fn race(title: &str, bytes: usize, mut ways: Vec<Way>) {
     println!();
 }
 
+/// The time that the library takes a line, on sheets of more and more lines: the best of the rounds. (Of a small sheet that
+/// is read again and again the processor remembers the branches.)
+fn growth(sheet: &[u8], absent: u32) {
+    println!("The library's lookup, by the number of lines");
+    for lines in [256, 1_024, 4_096, 16_384, 65_536] {
+        let body = sheet[HEADER..].iter().copied().cycle().take(LINE * lines);
+        let part: Vec<u8> = header(lines).into_iter().chain(body).collect();
+        let time = |_| {
+            let start = Instant::now();
+            assert!(hubeltxa::name(black_box(&part), absent).is_empty());
+            start.elapsed()
+        };
+        let best = (0..WARM_UP).map(time).min().unwrap();
+        println!("  {lines:>6} lines{:>29.1} ns a line", best.as_secs_f64() * 1e9 / lines as f64);
+    }
+}
+
 fn main() {
     let mut state = 1;
     let names: Vec<String> = (0..LINES).map(|_| name(&mut state)).collect();
@@ -248,4 +265,5 @@ fn main() {
             way("straight scan: format! and a copy", || sheet_by(black_box(&lines), black_box(&mut c), by_scan)),
         ],
     );
+    growth(&sheet, absent);
 }

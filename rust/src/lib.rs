@@ -7,10 +7,10 @@
 //! A *sheet* is a text of samples, each with a *reel name*: a header of 15 bytes, which are
 //! `SWATCHES`, the number of lines in 6 columns and a newline; then lines of 62 bytes, which are the
 //! tag in 10 columns, red, green and blue in 6 each, a blank, the reel name at the left of 32 columns
-//! and a newline. A number is decimal, at the right of its columns, with blanks before it and no
-//! leading zero but in 0 itself. A name is 1 to 32 bytes, each from 33 to 126. A line is good when it
-//! is so formed and its tag and codes are in range; a header is good when it is so formed and the
-//! sheet is exactly as long as its count says.
+//! with blanks after it, and a newline. A number is decimal, at the right of its columns, with blanks
+//! before it and no leading zero but in 0 itself. A name is 1 to 32 bytes, each from 33 to 126. A
+//! blank is byte 32, a newline byte 10. A line is good when it is so formed and its tag and codes are
+//! in range; a header is good when it is so formed and the sheet is exactly as long as its count says.
 //!
 //! A call that is refused gives `Err` with the number that says why. The functions have no state and
 //! may be called from any thread.

@@ -33,7 +33,7 @@ decimalIn (x ∷ (y ∷ rest)) = elim (eqb x 48) [ true ↦ none | false ↦ dig
 unfoldable pub columnNumber : List ℕ → Option ℕ
 columnNumber s = decimalIn (trimmed s)
 
--- Whether a text says something.
+-- Whether there is an answer.
 unfoldable pub present : {A : Type 0} → Option A → Bool
 present none = false
 present (some a) = true

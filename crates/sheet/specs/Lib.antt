@@ -4,4 +4,5 @@ pub mod Line
 pub mod Sheet
 pub mod Answers
 pub mod Steps
+pub mod Entries
 pub mod Computes

@@ -1,18 +1,17 @@
 -- Whole sheets: the header, the lines, and the name lookup (document 01, "Sheets").
 use Prim.Native.Nat.{ℕ, zero, suc, _+_, _*_, _≤_}
 use mathlib.Core.Bool.{Bool, true, false, _&&_}
-use mathlib.Core.List.{List, [], _∷_, _++_}
+use mathlib.Core.List.{List, [], _∷_}
 use mathlib.Core.Option.{Option, none, some}
 use mathlib.Core.Path.{_≡_}
 use denote.Ref.{RefT, ptr, now}
 use lib.Dec.{eqb}
 use lib.ListN.{length, take, drop, getD}
-use Rattle.colour.specs.declared.Sample.{Sample}
 use Rattle.colour.specs.Question.{asks, firstNo}
-use Rattle.sheet.specs.Column.{newline, columnNumber, present, columnOf}
+use Rattle.sheet.specs.Column.{newline, columnNumber, present}
 use Rattle.sheet.specs.declared.line.Line.{Line}
 use Rattle.sheet.specs.declared.lookup.Part.{Part}
-use Rattle.sheet.specs.Line.{lineOf, lineBytes, lineLength, nameStart}
+use Rattle.sheet.specs.Line.{lineOf, lineLength, nameStart}
 
 -- The eight bytes `SWATCHES`.
 unfoldable pub title : List ℕ
@@ -37,17 +36,20 @@ headerLength = length title + countColumns + 1
 unfoldable pub lineStart : ℕ → ℕ
 lineStart k = headerLength + lineLength * k
 
--- A header is good when so formed and the sheet is exactly 15 + 62 × count bytes. Question 11 asks this; the count is the number of lines.
+-- What a header must have besides its count: the title, and a newline after the count.
+unfoldable pub headerFormed : List ℕ → Bool
+headerFormed s = sameBytes (take (length title) s) title && eqb (getD s (length title + countColumns) 0) newline
+
+-- A count, where the header is so formed and the sheet is exactly as long as it says.
 unfoldable pub countIf : Bool → Option ℕ → List ℕ → Option ℕ
 countIf false n s = none
 countIf true none s = none
 countIf true (some n) s = elim (eqb (length s) (lineStart n)) [ true ↦ some n | false ↦ none ]
 
--- The header: title, count, newline.
+-- A header is good when so formed and the sheet is exactly 15 + 62 × count bytes. Question 11 asks this; the count is the
+-- number of lines, none where the header is not good.
 unfoldable pub lineCount : List ℕ → Option ℕ
-lineCount s =
-    countIf (sameBytes (take (length title) s) title && eqb (getD s (length title + countColumns) 0) newline)
-    (columnNumber (take countColumns (drop (length title) s))) s
+lineCount s = countIf (headerFormed s) (columnNumber (take countColumns (drop (length title) s))) s
 
 -- What the reading of a header gives back: question 11, and the number of lines.
 pub record HeaderAnswer : Type 0 where
@@ -114,18 +116,3 @@ pub record NameIn (sheet : RefT (List ℕ)) (tag : ℕ) (r : RefT (List ℕ)) : 
   pub within : namePart (now sheet) tag .start + namePart (now sheet) tag .size ≤ length (now sheet)
   pub bytes : now r ≡ bytesOf (namePart (now sheet) tag) (now sheet)
   pub place : ptr r ≡ (ptr sheet .0, ptr sheet .1 + namePart (now sheet) tag .start)
-
--- A sheet of written lines, each from a sample and a name.
-pub record Entry : Type 0 where
-  pub sample : Sample
-  pub name : List ℕ
-
-unfoldable pub headerBytes : ℕ → List ℕ
-headerBytes n = title ++ columnOf countColumns n ++ (newline ∷ [])
-
-unfoldable pub linesBytes : List Entry → List ℕ
-linesBytes [] = []
-linesBytes (e ∷ rest) = lineBytes (e .sample) (e .name) ++ linesBytes rest
-
-unfoldable pub sheetBytes : List Entry → List ℕ
-sheetBytes entries = headerBytes (length entries) ++ linesBytes entries

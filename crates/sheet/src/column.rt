@@ -51,7 +51,7 @@ fn digits(text: &[u8], most: u64) -> Number
 }
 
 // The same, with no leading zero but in 0 itself.
-fn decimal(text: &[u8], most: u64) -> Number
+fn decimal_in(text: &[u8], most: u64) -> Number
     ensures { λ r. ⌜ numberIs r ≡ within most (decimalIn (now (text .entry))) ⌝ }
 {
     if text.len() == 0 {
@@ -70,7 +70,7 @@ pub fn read_number(column: &[u8], most: u64) -> Number
     ensures { λ r. ⌜ numberIs r ≡ within most (columnNumber (now (column .entry))) ⌝ }
 {
     let start = blanks(column);
-    decimal(&column[start..], most)
+    decimal_in(&column[start..], most)
 }
 
 // A number written at the right of its column, blanks before it. Of one that is too long for the column the low digits are

@@ -19,7 +19,7 @@ const COUNT_COLUMNS: usize = 6;
 const COUNT_END: usize = TITLE_LENGTH + COUNT_COLUMNS;
 
 // Where line 0 starts.
-pub const HEADER_LENGTH: usize = COUNT_END + 1;
+const HEADER_LENGTH: usize = COUNT_END + 1;
 
 // The number of lines that a good header says, or that it is not good: question 11.
 pub enum Header {

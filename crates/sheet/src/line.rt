@@ -9,7 +9,7 @@ ghost use mathlib.Core.Path.{_≡_};
 ghost use Prim.Native.Nat.{_+_, _≤_};
 ghost use lib.ListN.{length};
 ghost use Rattle.sheet.specs.Answers.{lineAnswer};
-ghost use Rattle.sheet.specs.Line.{codeColumns, lineLength, codeColumn, lineNumbers, readLine};
+ghost use Rattle.sheet.specs.Line.{codeColumns, nameColumns, lineLength, codeColumn, lineNumbers, readLine};
 ghost use Rattle.sheet.specs.Steps.{numberIs, within, nameLengthIn, greatestCode};
 
 // The columns of a line, and where each starts.
@@ -52,12 +52,10 @@ pub enum Reading {
 
 // The length of the name in its columns, 0 where they are not a name and blanks after: a good name has a byte.
 fn name_length(field: &[u8]) -> usize
+    requires { ⌜ length (now field) ≤ nameColumns ⌝ }
     ensures { λ r. ⌜ r ≡ nameLengthIn (now (field .entry)) ⌝ }
 {
     let n = name_bytes(field);
-    if n > NAME_COLUMNS {
-        return 0;
-    }
     let rest = &field[n..];
     if blanks(rest) < rest.len() {
         return 0;

@@ -4,7 +4,7 @@ use mathlib.Core.Bool.{Bool, true, false, and-false, and-eq-true-iff}
 use mathlib.Core.List.{List, [], _∷_, _++_, append-nil}
 use mathlib.Core.Path.{_≡_, refl, sym, _∙_, ap}
 use lib.Dec.{leb, eqb}
-use lib.ListN.{length, replicate, length-append, length-replicate}
+use lib.ListN.{length, getD, replicate, length-append, length-replicate}
 use lib.Seq.{drop-append-seam}
 use borrow.Author.Tests.{leb-true, eqb-true, le-leb, lt-leb}
 use native.Mathlib.Omega.{arith}
@@ -24,6 +24,21 @@ name-good name g =
     let h = and-eq-true-iff _ _ .0 g in
     let ends = and-eq-true-iff (leb 1 (length name)) _ .0 (h .0) in
     record { named = leb-true _ _ (ends .0); fits = leb-true _ _ (ends .1); bytes = eqb-true _ _ (h .1) }
+
+-- "Each 33..126": each byte of a good name is a name byte.
+pub each-named : (name : List ℕ) → length (leading name) ≡ length name → (i : ℕ) → i < length name → nameByte (getD name i 0) ≡ true
+unfolding leading
+each-named [] e i h = absurd (omega arith)
+each-named (x ∷ rest) e i h = go (nameByte x) refl i h (each-named rest)
+  where
+    go : (q : Bool) → nameByte x ≡ q → (k : ℕ) → k < length (x ∷ rest)
+        → (length (leading rest) ≡ length rest → (j : ℕ) → j < length rest → nameByte (getD rest j 0) ≡ true)
+        → nameByte (getD (x ∷ rest) k 0) ≡ true
+    go true t zero l ih = t
+    go true t (suc j) l ih =
+        let same : suc (length (leading rest)) ≡ suc (length rest) = rw (t, leading) at e in
+        ih (omega arith) j (omega arith)
+    go false t k l ih = let none : 0 ≡ suc (length rest) = rw (t, leading) at e in absurd (omega arith)
 
 -- The test, one question after another.
 pub name-empty : (name : List ℕ) → length name < 1 → false ≡ nameGood name

@@ -10,12 +10,12 @@ use lib.Dec.{eqb}
 use lib.ListN.{length, take, drop, take-append-drop, drop-of-length-le}
 use Rattle.sheet.specs.declared.line.Line.{Line}
 use Rattle.sheet.specs.Line.{nameStart, lineLength, lineOf}
-use Rattle.sheet.specs.Sheet.{title, sameBytes, countColumns, headerLength, lineStart, lineCount, linePart, linesFrom, linesBy, linesOf, allGood, Entry, headerBytes, linesBytes, sheetBytes}
+use Rattle.sheet.specs.Sheet.{title, sameBytes, countColumns, headerLength, lineStart, lineCount, linePart, linesFrom, linesBy, linesOf, allGood}
+use Rattle.sheet.specs.Entries.{Entry, headerBytes, linesBytes, sheetBytes, entryGood, entriesGood, lineSaid, linesSaid}
 use Rattle.sheet.proofs.Laws.Exact.Lines.{part-first, part-length, number-exact, column-fits, line-exact, line-name-good, line-name-size}
 use Rattle.sheet.proofs.Laws.Reading.Header.{Formed, formed, line-ends}
 use Rattle.sheet.proofs.Laws.Numbers.{line-start-is}
 use Rattle.sheet.proofs.Laws.Ranges.{GoodRange, Ranged, line-ranged}
-use Rattle.sheet.proofs.Laws.RoundTrip.Sheets.{entryGood, entriesGood, lineSaid, linesSaid}
 use Rattle.sheet.proofs.Laws.Text.{next-byte}
 
 -- Two texts that compare as the same are the same.

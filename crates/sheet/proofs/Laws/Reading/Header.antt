@@ -1,5 +1,5 @@
 -- The header of a sheet, and where its lines stand (document 01, "Sheets").
-use Prim.Native.Nat.{ℕ, suc, _+_, _-_}
+use Prim.Native.Nat.{ℕ, suc, _+_, _-_, _≤_, _<_}
 use mathlib.Core.Bool.{Bool, true, false, and-eq-true-iff}
 use mathlib.Core.List.{List}
 use mathlib.Core.Option.{Option, none, some}
@@ -14,7 +14,7 @@ use Rattle.sheet.specs.declared.header.Header.the-variants as H
 use Rattle.sheet.specs.Column.{newline, columnNumber, present}
 use Rattle.sheet.specs.Line.{lineLength}
 use Rattle.sheet.specs.Steps.{within}
-use Rattle.sheet.specs.Sheet.{title, sameBytes, countColumns, lineStart, countIf, lineCount, readHeader, linePart}
+use Rattle.sheet.specs.Sheet.{title, sameBytes, countColumns, lineStart, headerFormed, countIf, lineCount, readHeader, linePart}
 use Rattle.sheet.proofs.Laws.Reading.Digits.{within-some, within-yes}
 use Rattle.sheet.proofs.Laws.Numbers.{line-length-is, line-start-is}
 
@@ -45,14 +45,14 @@ taken true (some m) s n e = go (eqb (length s) (lineStart m)) refl e
 
 -- So a count says that the header is so formed, and the other way round.
 pub formed : (s : List ℕ) (n : ℕ) → lineCount s ≡ some n → Formed s n
-unfolding lineCount
+unfolding lineCount headerFormed
 formed s n e =
     let h = taken _ _ s n e in
     let t = and-eq-true-iff _ _ .0 (h .0) in
     record { titled = t .0; ended = eqb-true _ _ (t .1); count = h .1; whole = h .2 }
 
 pub counted : (s : List ℕ) (n : ℕ) → Formed s n → lineCount s ≡ some n
-unfolding lineCount countIf
+unfolding lineCount headerFormed countIf
 counted s n f = rw (f .titled, eq-eqb _ _ (f .ended), f .count, countIf, eq-eqb (length s) (lineStart n) (f .whole))
 
 -- The answer of a header that is so formed, and of one that is not.
@@ -88,6 +88,10 @@ module _ (s : List ℕ) (lines n : ℕ) (exact : length s ≡ lineStart lines) (
 -- A line ends where the next one starts.
 pub line-ends : (k : ℕ) → lineStart (suc k) ≡ lineStart k + lineLength
 line-ends k = omega (arith, line-start-is k, line-start-is (suc k), line-length-is)
+
+-- Each line that a good header counts lies within the sheet.
+pub line-fits : (s : List ℕ) (n k : ℕ) → lineCount s ≡ some n → k < n → lineStart (suc k) ≤ length s
+line-fits s n k e h = omega (arith, formed s n e .whole, line-start-is (suc k), line-start-is n)
 
 -- A part as long as a line that starts where line k does is that line.
 pub line-part-is : (s : List ℕ) (k at : ℕ) → at ≡ lineStart k → take (at + lineLength - at) (drop at s) ≡ linePart s k

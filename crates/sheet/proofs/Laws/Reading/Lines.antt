@@ -5,7 +5,7 @@ use mathlib.Core.List.{List}
 use mathlib.Core.Option.{Option, none, some, Option·none-ne-some, Option·some-injective}
 use mathlib.Core.Path.{_≡_, refl, sym, ap, _∙_}
 use native.Mathlib.Omega.{arith}
-use borrow.Author.Tests.{le-leb, lt-leb, eq-eqb, ne-eqb, leb-false, ltb-true, lt-ltb}
+use borrow.Author.Tests.{le-leb, eq-eqb, ne-eqb, leb-false, ltb-true, lt-ltb}
 use lib.Dec.{leb, eqb}
 use lib.ListN.{length, drop, getD}
 use Rattle.colour.specs.declared.Sample.{Sample}
@@ -18,7 +18,7 @@ use Rattle.sheet.specs.declared.line.Reading.the-variants as R
 use Rattle.sheet.specs.Answers.{lineAnswer}
 use Rattle.sheet.specs.Column.{blank, newline, trimmed, present}
 use Rattle.sheet.proofs.Laws.Reading.Digits.{within-yes, within-some}
-use Rattle.sheet.proofs.Laws.Text.{leading-twice, trimmed-most}
+use Rattle.sheet.proofs.Laws.Text.{leading-twice, leading-most, trimmed-most}
 use Rattle.sheet.proofs.Laws.Names.{name-good}
 use Rattle.sheet.proofs.Laws.Ranges.{GoodRange, Ranged, from-holds}
 use Rattle.sheet.specs.Line.{blankAt, newlineAt, lineLength}
@@ -115,13 +115,8 @@ some-bytes : (s : List ℕ) → nameFieldGood s ≡ true → 1 ≤ length (leadi
 unfolding nameFieldGood
 some-bytes s e = name-good (leading s) (and-eq-true-iff (nameGood (leading s)) _ .0 e .0) .named
 
--- Columns that start with n name bytes: too many, or some other byte among the rest, or n bytes of name.
+-- Columns that start with n name bytes: some other byte among the rest, or n bytes of name.
 module _ (s : List ℕ) (n : ℕ) (named : n ≡ length (leading s)) where
-  pub name-long : nameColumns < n → 0 ≡ nameLengthIn s
-  unfolding nameFieldGood nameGood
-  name-long h =
-      bad s (rw (lt-leb (length (leading s)) nameColumns (omega arith), and-false (leb 1 (length (leading s)))))
-
   pub name-followed : (rest : List ℕ) → rest ≡ drop n s → (k : ℕ) → k ≡ length rest - length (trimmed rest) → k < length rest → 0 ≡ nameLengthIn s
   unfolding nameFieldGood
   name-followed rest r k blanks h =
@@ -136,9 +131,12 @@ module _ (s : List ℕ) (n : ℕ) (named : n ≡ length (leading s)) where
       (and-true (leb 1 n && true && true) ∙ and-true (leb 1 n && true) ∙ and-true (leb 1 n))
 
   pub name-alone : (rest : List ℕ) → rest ≡ drop n s → (k : ℕ) → k ≡ length rest - length (trimmed rest) → length rest ≤ k
-      → n ≤ nameColumns → n ≡ nameLengthIn s
-  name-alone rest r k blanks h fits = go (leb 1 n) refl
+      → length s ≤ nameColumns → n ≡ nameLengthIn s
+  name-alone rest r k blanks h narrow = go (leb 1 n) refl
     where
+      fits : n ≤ nameColumns
+      fits = omega (arith, leading-most s)
+
       all-blank : length (trimmed rest) ≡ 0
       all-blank = omega (arith, trimmed-most rest)
 

@@ -17,12 +17,11 @@ use Rattle.sheet.specs.declared.line.Line.{Line}
 use Rattle.sheet.specs.declared.line.Reading.{Reading}
 use Rattle.sheet.specs.declared.lookup.Part.{Part}
 use Rattle.sheet.specs.Answers.{headerAnswer, lineAnswer}
-use Rattle.sheet.specs.Line.{nameColumns, nameStart, lineOf, LineAnswer, readLine}
+use Rattle.sheet.specs.Line.{nameColumns, nameStart, newlineAt, lineLength, lineOf, LineAnswer, readLine}
 use Rattle.sheet.specs.Sheet.{lineStart, lineCount, HeaderAnswer, readHeader, linePart, linesFrom, linesBy, linesOf, emptyPart, bytesOf, allGood, namePartFrom, namePartOf, namePart, NameIn}
 use Rattle.sheet.proofs.Laws.Exact.Lines.{line-name-good, line-name-size}
-use Rattle.sheet.proofs.Laws.Reading.Header.{formed}
+use Rattle.sheet.proofs.Laws.Reading.Header.{line-ends, line-fits}
 use Rattle.sheet.proofs.Laws.Names.{name-good}
-use Rattle.sheet.proofs.Laws.Numbers.{name-start-is, line-start-is}
 
 -- What the answers of a header and of a line say.
 pub header-says : (r x : Header) (s : List ℕ) → r ≡ x → headerAnswer r ≡ readHeader s → headerAnswer x .lines ≡ lineCount s
@@ -88,7 +87,7 @@ module _ (p : Part) (tag k : ℕ) (l : Line) (rest : List (Option Line)) where
 -- The state of a lookup before line k, with the part found so far: what is left to find gives the part that it hands back.
 pub record SoFar (s : List ℕ) (tag count k start size : ℕ) : Type 0 where
   pub reached : k ≤ count
-  pub whole : length s ≡ lineStart count
+  pub fits : (j : ℕ) → j < count → lineStart (suc j) ≤ length s
   pub unfound : size ≡ 0 → start ≡ 0
   pub left : namePart s tag ≡ pending (record { start = start; size = size }) tag k (linesFrom s k (count - k))
 
@@ -101,7 +100,7 @@ pub begins : (s : List ℕ) (tag count : ℕ) → some count ≡ lineCount s →
 unfolding namePart namePartOf linesOf linesBy pending whereGood orElse
 begins s tag count e =
     let all : count - 0 ≡ count = omega arith in
-    record { reached = omega arith; whole = formed s count (sym e) .whole; unfound = λ z. refl; left = rw (← e, all) }
+    record { reached = omega arith; fits = λ j h. line-fits s count j (sym e) h; unfound = λ z. refl; left = rw (← e, all) }
 
 -- From one state to the next.
 module _ {s : List ℕ} {tag count k start size : ℕ} (h : SoFar s tag count k start size) where
@@ -134,7 +133,7 @@ module _ {s : List ℕ} {tag count k start size : ℕ} (h : SoFar s tag count k 
         → pending (record { start = start; size = size }) tag k (some l ∷ linesFrom s (k + 1) (count - (k + 1)))
         ≡ pending (record { start = start'; size = size' }) tag (k + 1) (linesFrom s (k + 1) (count - (k + 1)))
         → SoFar s tag count (k + 1) start' size'
-    onward z w = record { reached = omega arith; whole = h .whole; unfound = z; left = next more _ e ∙ w }
+    onward z w = record { reached = omega arith; fits = h .fits; unfound = z; left = next more _ e ∙ w }
 
     pub found-before : (size ≡ 0 → ⊥) → SoFar s tag count (k + 1) start size
     found-before z = onward (h .unfound) (after _ _ _ _ _ z)
@@ -154,22 +153,23 @@ Within p m = p .start + p .size ≤ m
 -- A name lies in its line, so within the bytes up to the line's end, and each name among lines from line k on.
 line-within : (tag k m : ℕ) (l : Line) (rest : List (Option Line)) → l .«name_length» ≤ nameColumns → lineStart (suc k) ≤ m
     → Within (namePartFrom tag (suc k) rest) m → Within (namePartFrom tag k (some l ∷ rest)) m
-unfolding namePartFrom nameColumns
+unfolding namePartFrom lineLength newlineAt
 line-within tag k m l rest short room h = go (eqb (l .sample .tag) tag) refl
   where
     go : (q : Bool) → eqb (l .sample .tag) tag ≡ q → Within (namePartFrom tag k (some l ∷ rest)) m
-    go true e = rw (e, namePartFrom) (omega (arith, line-start-is k, line-start-is (suc k), name-start-is))
+    go true e = rw (e, namePartFrom) (omega (arith, line-ends k))
     go false e = rw (e, namePartFrom) h
 
-from-within : (s : List ℕ) (tag k n : ℕ) → Within (namePartFrom tag k (linesFrom s k n)) (lineStart (k + n))
+from-within : (s : List ℕ) (tag k n m : ℕ) → ((j : ℕ) → j < k + n → lineStart (suc j) ≤ m) → Within (namePartFrom tag k (linesFrom s k n)) m
 unfolding namePartFrom linesFrom emptyPart
-from-within s tag k zero = omega arith
-from-within s tag k (suc n) = go (lineOf (linePart s k)) refl (omega (arith, from-within s tag (suc k) n, line-start-is (suc k + n), line-start-is (k + suc n)))
+from-within s tag k zero m fits = omega arith
+from-within s tag k (suc n) m fits =
+    go (lineOf (linePart s k)) refl (from-within s tag (suc k) n m (λ j h. fits j (omega arith)))
   where
-    go : (o : Option Line) → lineOf (linePart s k) ≡ o → Within (namePartFrom tag (suc k) (linesFrom s (suc k) n)) (lineStart (k + suc n))
-        → Within (namePartFrom tag k (o ∷ linesFrom s (suc k) n)) (lineStart (k + suc n))
+    go : (o : Option Line) → lineOf (linePart s k) ≡ o → Within (namePartFrom tag (suc k) (linesFrom s (suc k) n)) m
+        → Within (namePartFrom tag k (o ∷ linesFrom s (suc k) n)) m
     go none e h = h
-    go (some l) e h = line-within tag k (lineStart (k + suc n)) l (linesFrom s (suc k) n) (name-length (linePart s k) l e .1) (omega (arith, line-start-is (suc k), line-start-is (k + suc n))) h
+    go (some l) e h = line-within tag k m l (linesFrom s (suc k) n) (name-length (linePart s k) l e .1) (fits k (omega arith)) h
 
 good-within : (good : Bool) (p : Part) (m : ℕ) → Within p m → Within (whereGood good p) m
 unfolding whereGood emptyPart
@@ -183,7 +183,10 @@ name-within s tag = go (lineCount s) refl
   where
     go : (o : Option ℕ) → lineCount s ≡ o → Within (namePart s tag) (length s)
     go none e = rw e (omega arith)
-    go (some n) e = rw (e, formed s n e .whole) (good-within (allGood (linesFrom s 0 n)) (namePartFrom tag 0 (linesFrom s 0 n)) (lineStart n) (omega (arith, from-within s tag 0 n, line-start-is (0 + n), line-start-is n)))
+    go (some n) e =
+        rw e
+        (good-within (allGood (linesFrom s 0 n)) (namePartFrom tag 0 (linesFrom s 0 n)) (length s)
+        (from-within s tag 0 n (length s) (λ j h. line-fits s n j e (omega arith))))
 
 -- The lookup's part of a sheet can be handed back, and it is what is promised.
 module _ (sheet : RefT (List ℕ)) (tag : ℕ) (p : Part) (e : p ≡ namePart (now sheet) tag) where

@@ -1,16 +1,17 @@
 -- A number written in columns reads back (document 01, "Sheets").
 use Prim.Native.Nat.{ℕ, zero, suc, _+_, _-_, _*_, _/_, _%_, _^_, _≤_, _<_}
-use mathlib.Core.Bool.{Bool, true, false, _&&_, and-eq-true-iff}
+use mathlib.Core.Bool.{Bool, true, false, _&&_}
 use mathlib.Core.List.{List, [], _∷_, _++_}
 use mathlib.Core.Option.{none, some}
 use mathlib.Core.Path.{_≡_, refl, _∙_, ap}
 use lib.Dec.{leb, ltb}
 use lib.ListN.{length, take, drop, getD, replicate}
 use lib.Seq.{take-at, drop-at}
-use borrow.Author.Tests.{ltb-true, ltb-false, le-leb, ne-eqb}
+use borrow.Author.Tests.{ltb-true, ltb-false, ne-eqb}
 use native.Mathlib.Nat.{pow-suc}
 use native.Mathlib.Omega.{arith}
 use Rattle.sheet.specs.Column.{blank, trimmed, digitsAfter, decimalIn, columnNumber, decimal, columnOf}
+use Rattle.sheet.proofs.Laws.Reading.Digits.{is-digit}
 use Rattle.sheet.proofs.Laws.Writing.Lengths.{column-length}
 
 -- Blanks before a text are left out.
@@ -31,16 +32,12 @@ record Digits (s : List ℕ) (n : ℕ) : Type 0 where
   first : 48 ≤ getD s 0 0
   leads : 0 < n → 48 < getD s 0 0
 
--- 48 + d is a digit's byte.
-is-digit : (d : ℕ) → d < 10 → (leb 48 (48 + d) && leb (48 + d) 57) ≡ true
-is-digit d h = and-eq-true-iff _ _ .1 (le-leb 48 (48 + d) (omega arith), le-leb (48 + d) 57 (omega arith))
-
 -- One digit more gives ten times the number and that digit.
 digit-more : (n m d : ℕ) (s : List ℕ) → d < 10 → digitsAfter n s ≡ some m → digitsAfter n (s ++ ((48 + d) ∷ [])) ≡ some (10 * m + d)
 unfolding digitsAfter
 digit-more n m d [] h e =
     let same : n ≡ m = cc in
-    rw (is-digit d h, digitsAfter) (ap some (omega arith))
+    rw (is-digit (48 + d) (omega arith) (omega arith), digitsAfter) (ap some (omega arith))
 digit-more n m d (x ∷ rest) h e = go (leb 48 x && leb x 57) refl (digit-more (10 * n + (x - 48)) m d rest h)
   where
     go : (q : Bool) → (leb 48 x && leb x 57) ≡ q

@@ -17,7 +17,7 @@ use Rattle.sheet.specs.Line.{tagColumns, codeColumns, nameColumns, redSt
 use Rattle.sheet.specs.Line.{nameGood, lineFrom, nameField, lineFormed, codeColumn, lineNumbers, lineOf, numberColumns, lineBytes, writeNumber, writeLine}
 use Rattle.sheet.proofs.Laws.RoundTrip.Columns.{column-at}
 use Rattle.sheet.proofs.Laws.Names.{name-good, filled, filled-length, filled-name, filled-good}
-use Rattle.sheet.proofs.Laws.Writing.Lengths.{column-length, line-bytes-length}
+use Rattle.sheet.proofs.Laws.Writing.Lengths.{column-length, numbers-length, line-bytes-length}
 
 -- Where a channel's code starts.
 codeStart : Channel → ℕ
@@ -34,7 +34,7 @@ module _ (s : Sample) (name : List ℕ) where
   code h = columnOf codeColumns (codeIn h (s .colour))
 
   abbrev numbers : List ℕ
-  numbers = tag ++ code Red ++ code Green ++ code Blue
+  numbers = numberColumns s
 
   abbrev after : List ℕ → List ℕ
   after t = blank ∷ (filled name ++ (newline ∷ t))
@@ -60,7 +60,7 @@ module _ (s : Sample) (name : List ℕ) where
 
   -- So each does.
   code-reads : codesFit (s .colour) ≡ true → (h : Channel) → codeColumn (lineBytes s name) (codeStart h) ≡ some (codeIn h (s .colour))
-  unfolding codeStart redStart greenStart blueStart
+  unfolding numberColumns codeIn codeStart redStart greenStart blueStart
   code-reads f Red = code-at Red tag (code Green ++ code Blue ++ after []) f (line-is ∙ simp append-assoc) (simp column-length)
   code-reads f Green = code-at Green (tag ++ code Red) (code Blue ++ after []) f (line-is ∙ simp append-assoc) (simp (length-append, column-length))
   code-reads f Blue = code-at Blue (tag ++ code Red ++ code Green) (after []) f (line-is ∙ simp append-assoc) (simp (length-append, column-length))
@@ -74,16 +74,12 @@ module _ (s : Sample) (name : List ℕ) where
       rw (tag-reads t, code-reads f Red, code-reads f Green, code-reads f Blue) (rw (good, lineFrom))
 
   -- After the numbers stand the blank, the name's columns and the newline.
-  numbers-length : length numbers ≡ blankAt
-  unfolding redStart greenStart blueStart blankAt
-  numbers-length = simp (length-append, column-length)
-
   blank-stands : getD (lineBytes s name) blankAt 0 ≡ blank
-  blank-stands = rw line-is (getD-at numbers blank _ 0 blankAt numbers-length)
+  blank-stands = rw line-is (getD-at numbers blank _ 0 blankAt (numbers-length s))
 
   start-length : length (numbers ++ (blank ∷ [])) ≡ nameStart
   unfolding nameStart
-  start-length = length-append numbers (blank ∷ []) ∙ omega (arith, numbers-length)
+  start-length = length-append numbers (blank ∷ []) ∙ omega (arith, numbers-length s)
 
   name-on : (t : List ℕ) → drop nameStart (lineBytes s name ++ t) ≡ filled name ++ (newline ∷ t)
   name-on t = rw (line-parts t, ← append-assoc numbers (blank ∷ [])) (drop-at (numbers ++ (blank ∷ [])) _ nameStart start-length)
@@ -98,7 +94,7 @@ module _ (s : Sample) (name : List ℕ) where
   newline-stands g =
       rw (line-is, ← append-assoc numbers (blank ∷ filled name))
       (getD-at (numbers ++ (blank ∷ filled name)) newline [] 0 newlineAt
-      (length-append numbers (blank ∷ filled name) ∙ omega (arith, numbers-length, filled-length name (name-good name g))))
+      (length-append numbers (blank ∷ filled name) ∙ omega (arith, numbers-length s, filled-length name (name-good name g))))
 
   -- So it is formed as a line is.
   formed : nameGood name ≡ true → lineFormed (lineBytes s name) ≡ true

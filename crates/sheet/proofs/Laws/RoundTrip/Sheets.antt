@@ -1,45 +1,25 @@
 -- A sheet of written lines reads back: its count, its lines, and the name for a tag (document 01, "Sheets").
 use Prim.Native.Nat.{ℕ, suc, _+_, _*_, _^_, _<_}
 use mathlib.Core.Bool.{Bool, true, false, _&&_, and-eq-true-iff}
-use mathlib.Core.List.{List, [], _∷_, _++_, append-assoc, map}
-use mathlib.Core.Option.{Option, some}
+use mathlib.Core.List.{List, [], _∷_, _++_, append-assoc}
+use mathlib.Core.Option.{some}
 use mathlib.Core.Path.{_≡_, refl, _∙_, ap}
 use lib.Dec.{eqb}
 use lib.ListN.{length, take, drop, getD, length-append}
 use lib.Seq.{getD-at, drop-append-add}
-use borrow.Author.Tests.{eq-eqb}
 use native.Mathlib.Omega.{arith}
 use Rattle.colour.specs.Colour.{isTag, codesFit}
-use Rattle.sheet.specs.declared.line.Line.{Line}
 use Rattle.sheet.specs.Column.{newline, columnNumber, columnOf}
 use Rattle.sheet.specs.Line.{nameStart, lineLength, nameGood, lineOf, lineBytes}
-use Rattle.sheet.specs.Sheet.{title, sameBytes, countColumns, headerLength, lineStart, countIf, lineCount, linePart, linesFrom, linesBy, linesOf}
-use Rattle.sheet.specs.Sheet.{emptyPart, bytesOf, allGood, namePartFrom, namePartOf, namePart, Entry, headerBytes, linesBytes, sheetBytes}
+use Rattle.sheet.specs.Sheet.{title, sameBytes, countColumns, headerLength, lineStart, lineCount, linePart, linesFrom, linesBy, linesOf}
+use Rattle.sheet.specs.Sheet.{emptyPart, bytesOf, allGood, namePartFrom, namePartOf, namePart}
+use Rattle.sheet.specs.Entries.{Entry, entriesGood, entryGood, headerBytes, lineSaid, linesBytes, linesSaid, nameFor, sheetBytes}
 use Rattle.sheet.proofs.Laws.RoundTrip.Columns.{part-at, column-at}
+use Rattle.sheet.proofs.Laws.Reading.Header.{counted}
 use Rattle.sheet.proofs.Laws.Names.{name-good}
 use Rattle.sheet.proofs.Laws.Numbers.{line-length-is}
 use Rattle.sheet.proofs.Laws.Writing.Lengths.{column-length, line-bytes-length}
 use Rattle.sheet.proofs.Laws.RoundTrip.Lines.{line-reads, name-stands}
-
--- An entry is good when tag and codes are in range and the name is good.
-unfoldable pub entryGood : Entry → Bool
-entryGood e = isTag (e .sample .tag) && codesFit (e .sample .colour) && nameGood (e .name)
-
-unfoldable pub entriesGood : List Entry → Bool
-entriesGood [] = true
-entriesGood (e ∷ rest) = entryGood e && entriesGood rest
-
--- What the line of an entry says, and what the lines of a sheet say: each is good.
-unfoldable pub lineSaid : Entry → Line
-lineSaid e = record { sample = e .sample; «name_length» = length (e .name) }
-
-unfoldable pub linesSaid : List Entry → List (Option Line)
-linesSaid es = map (λ e. some (lineSaid e)) es
-
--- The name in the first entry with the tag; the empty name where there is none.
-unfoldable pub nameFor : ℕ → List Entry → List ℕ
-nameFor tag [] = []
-nameFor tag (e ∷ rest) = elim (eqb (e .sample .tag) tag) [ true ↦ e .name | false ↦ nameFor tag rest ]
 
 -- The line written from an entry. That of a good entry has the length of a line, and reads back.
 abbrev line : Entry → List ℕ
@@ -107,11 +87,12 @@ sheet-length es g =
 
 -- The count reads back.
 count-reads : (es : List Entry) → entriesGood es ≡ true → length es < 10 ^ countColumns → lineCount (sheetBytes es) ≡ some (length es)
-unfolding sheetBytes lineCount countIf
+unfolding sheetBytes
 count-reads es g few =
     let n : ℕ = length es in
     let t : List ℕ = linesBytes es in
-    rw (title-stands n t, eq-eqb _ _ (newline-stands n t), count-stands n t few) (rw (eq-eqb _ _ (sheet-length es g), countIf))
+    counted (sheetBytes es) n
+    (record { titled = title-stands n t; ended = newline-stands n t; count = count-stands n t few; whole = sheet-length es g })
 
 -- The lines from line k on read back, after what stands before them.
 lines-read : (p : List ℕ) (k : ℕ) (es : List Entry) → length p ≡ lineStart k → entriesGood es ≡ true

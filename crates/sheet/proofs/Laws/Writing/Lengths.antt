@@ -8,7 +8,7 @@ use lib.ListN.{length, replicate, length-append, length-replicate}
 use native.Mathlib.Omega.{arith}
 use Rattle.colour.specs.declared.Sample.{Sample}
 use Rattle.sheet.specs.Column.{blank, decimal, columnOf}
-use Rattle.sheet.specs.Line.{tagColumns, codeColumns, nameColumns, redStart, greenStart, blueStart, blankAt, nameStart, newlineAt, lineLength, numberColumns, lineBytes}
+use Rattle.sheet.specs.Line.{nameColumns, redStart, greenStart, blueStart, blankAt, nameStart, newlineAt, lineLength, numberColumns, lineBytes}
 
 decimal-most : (w n : ℕ) → length (decimal w n) ≤ w
 unfolding decimal
@@ -25,15 +25,11 @@ column-length w n =
     length-append (replicate (w - length (decimal w n)) blank) (decimal w n)
     ∙ omega (arith, length-replicate (w - length (decimal w n)) blank, decimal-most w n)
 
+pub numbers-length : (s : Sample) → length (numberColumns s) ≡ blankAt
+unfolding numberColumns redStart greenStart blueStart blankAt
+numbers-length s = simp (length-append, column-length)
+
 pub line-bytes-length : (s : Sample) (name : List ℕ) → length name ≤ nameColumns → length (lineBytes s name) ≡ lineLength
-unfolding numberColumns lineBytes lineLength newlineAt nameStart blankAt blueStart greenStart redStart
+unfolding lineBytes lineLength newlineAt nameStart
 line-bytes-length s name h =
-    simp length-append
-    (omega (
-      arith,
-      column-length tagColumns (s .tag),
-      column-length codeColumns (s .colour .red),
-      column-length codeColumns (s .colour .green),
-      column-length codeColumns (s .colour .blue),
-      length-replicate (nameColumns - length name) blank,
-    ))
+    simp length-append (omega (arith, numbers-length s, length-replicate (nameColumns - length name) blank))

@@ -25,7 +25,7 @@ use Rattle.sheet.specs.Column.{blank, newline, columnOf}
 use Rattle.sheet.specs.Line.{tagColumns, codeColumns, nameColumns, redStart, greenStart, blueStart, blankAt, nameStart, newlineAt, lineLength, nameGood, numberColumns, lineBytes, writeNumber, writeLine}
 use Rattle.sheet.specs.Steps.{putAt}
 use Rattle.sheet.proofs.Laws.Parts.{put-next, set-next, part-put}
-use Rattle.sheet.proofs.Laws.Writing.Lengths.{column-length}
+use Rattle.sheet.proofs.Laws.Writing.Lengths.{column-length, numbers-length}
 
 -- A column that was lent comes back with its number.
 pub column-put : (at w n : ℕ) (s t : List ℕ) → at + w ≤ length s → t ≡ columnOf (length (take (at + w - at) (drop at s))) n
@@ -61,10 +61,6 @@ numbers-written s l₀ l₁ l₂ l₃ l₄ e₁ e₂ e₃ e₄ =
     ∙ column-next (t ++ r) l₀ greenStart codeColumns (s .colour .green) (simp (length-append, column-length)) in
     e₄ ∙ ap (putAt blueStart (columnOf codeColumns (s .colour .blue))) h₃
     ∙ column-next ((t ++ r) ++ g) l₀ blueStart codeColumns (s .colour .blue) (simp (length-append, column-length))
-
-numbers-length : (s : Sample) → length (numberColumns s) ≡ blankAt
-unfolding numberColumns redStart greenStart blueStart blankAt
-numbers-length s = simp (length-append, column-length)
 
 -- The rest of a line after its numbers: a blank, the name with blanks after it in a part that was lent, a newline.
 module _ (s : Sample) (l₀ l₁ : List ℕ) (room : lineLength ≤ length l₀) (numbers : l₁ ≡ numberColumns s ++ drop blankAt l₀) where

@@ -12,23 +12,23 @@ use Rattle.sheet.proofs.column.read_number.Tie as tie
 blanks-requires : tie.Need-blanks-requires
 blanks-requires c κs = search needs
 
-sub-decimal : tie.Need-sub-decimal
-sub-decimal c = omega arith
+sub-decimal-in : tie.Need-sub-decimal-in
+sub-decimal-in c = omega arith
 
-part-decimal-start : tie.Need-part-decimal-start
-part-decimal-start c = omega arith
+part-decimal-in-start : tie.Need-part-decimal-in-start
+part-decimal-in-start c = omega arith
 
-part-decimal-end : tie.Need-part-decimal-end
-part-decimal-end c = search needs
+part-decimal-in-end : tie.Need-part-decimal-in-end
+part-decimal-in-end c = search needs
 
-decimal-requires : tie.Need-decimal-requires
-decimal-requires c κs = search needs
+decimal-in-requires : tie.Need-decimal-in-requires
+decimal-in-requires c κs = search needs
 
 returns : tie.Need-returns
 unfolding columnNumber
 returns c =
     let d = c .before .before in
-    c .decimal .ensures
+    c .decimal-in .ensures
     ∙ ap (λ s. within (d .before .before .args .most) (decimalIn s)) (part-tail (d .before .before .args .column .now) (d .blanks .result) ∙ after-blanks _ _ (d .blanks .ensures))
 
 pub read-number-spec : {M : Type 1} → statement M
@@ -36,8 +36,8 @@ read-number-spec =
     tie.close
     (tie.spec
     blanks-requires
-    sub-decimal
-    part-decimal-start
-    part-decimal-end
-    decimal-requires
+    sub-decimal-in
+    part-decimal-in-start
+    part-decimal-in-end
+    decimal-in-requires
     returns)

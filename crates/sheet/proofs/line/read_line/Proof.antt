@@ -1,6 +1,8 @@
 -- `line::read_line`: each return by the tests that led there, by laws of Laws.Reading.Lines.
 use Prim.Native.Nat.{_-_}
 use mathlib.Core.Path.{sym, _∙_}
+use native.Mathlib.Omega.{arith}
+use lib.ListN.{drop, length-take}
 use Rattle.sheet.specs.declared.line.Reading.the-variants as R
 use Rattle.sheet.specs.Answers.{lineAnswer}
 use Rattle.sheet.specs.Column.{blank, newline}
@@ -39,7 +41,8 @@ part-name-length-end : tie.Need-part-name-length-end
 part-name-length-end c = search needs
 
 name-length-requires : tie.Need-name-length-requires
-name-length-requires c κs = search needs
+unfolding sheetNumbers
+name-length-requires c κs = omega (arith, length-take 32 (drop 29 (c .before .before .before .before .before .before .before .args .line .now)))
 
 returns-4 : tie.Need-returns-4
 unfolding lineAnswer nameField sheetNumbers

@@ -1,11 +1,11 @@
 -- `lookup::name_part`: the part found so far, and the lines left, give the part that is handed back.
-use Prim.Native.Nat.{suc, _-_}
+use Prim.Native.Nat.{_-_}
 use mathlib.Core.Logic.{⊎-elim}
 use native.Mathlib.Omega.{arith}
 use Rattle.sheet.specs.Answers.{headerAnswer, lineAnswer}
 use Rattle.sheet.specs.Sheet.{emptyPart}
 use Rattle.sheet.specs.Computes.{sheetNumbers}
-use Rattle.sheet.proofs.Laws.Numbers.{line-start-is}
+use Rattle.sheet.proofs.Laws.Reading.Header.{line-ends}
 use Rattle.sheet.proofs.Laws.Reading.Lookup.{SoFar, header-says, line-says, no-header, begins, bad-line, ends, found-before, another-tag, finds}
 use borrow.Author.Needs.{needs}
 use Rattle.sheet.proofs.lookup.name_part.Statement.{statement}
@@ -37,8 +37,7 @@ loop-holds c =
     begins _ _ _ (header-says _ _ _ (d .count .given .1) (d .before .before .read-header .ensures))
 
 line-at-requires : tie.Need-line-at-requires Inv-loop μ-loop
-unfolding sheetNumbers
-line-at-requires c κs = omega (arith, line-start-is (suc (c .before .loop .k)))
+line-at-requires c κs = c .before .loop .inv .fits _ (c .loop-test .taken)
 
 enum-known-line : tie.Need-enum-known-line Inv-loop μ-loop
 enum-known-line c = search needs
@@ -53,16 +52,15 @@ returns-2 c =
     bad-line (d .before .before .loop .inv) (d .before .loop-test .taken) (line-says _ _ _ (c .enum-told2 .given .1) (d .line-at .ensures))
 
 line-start-requires : tie.Need-line-start-requires Inv-loop μ-loop
-unfolding sheetNumbers
 line-start-requires c κs =
-    let k = c .before .before .before .before .before .before .before .before .loop .k in
-    omega (arith, line-start-is k)
+    let l = c .before .before .before .before .before .before .before .before .loop in
+    omega (arith, line-ends (l .k), l .inv .fits (l .k) (omega arith))
 
 add-start : tie.Need-add-start Inv-loop μ-loop
 unfolding sheetNumbers
 add-start c =
-    let k = c .before .before .before .before .before .before .before .before .before .loop .k in
-    omega (arith, line-start-is k)
+    let l = c .before .before .before .before .before .before .before .before .before .loop in
+    omega (arith, l .inv .fits (l .k) (omega arith))
 
 add-k : tie.Need-add-k Inv-loop μ-loop
 add-k c = search needs

@@ -1,11 +1,11 @@
--- `column::decimal`: each return by the tests that led there, by laws of Laws.Reading.Digits.
+-- `column::decimal_in`: each return by the tests that led there, by laws of Laws.Reading.Digits.
 use mathlib.Core.Logic.{⊎-elim}
 use mathlib.Core.Path.{sym, ap, _∙_}
 use Rattle.sheet.specs.Steps.{numberIs, within}
 use Rattle.sheet.proofs.Laws.Reading.Digits.{within-none, decimal-empty, leading-zero, decimal-single, decimal-plain}
 use borrow.Author.Needs.{needs}
-use Rattle.sheet.proofs.column.decimal.Statement.{statement}
-use Rattle.sheet.proofs.column.decimal.Tie as tie
+use Rattle.sheet.proofs.column.decimal_in.Statement.{statement}
+use Rattle.sheet.proofs.column.decimal_in.Tie as tie
 
 returns : tie.Need-returns
 unfolding numberIs
@@ -28,6 +28,6 @@ returns-3 c =
     ∙ ap (within _)
     (sym (⊎-elim (λ w. decimal-plain _ (w .0 .taken) (w .2 .left)) (λ w. decimal-single _ (d .before .if1 .left) (w .left)) (d .if2 .came)))
 
-pub decimal-spec : {M : Type 1} → statement M
-decimal-spec =
+pub decimal-in-spec : {M : Type 1} → statement M
+decimal-in-spec =
     tie.close (tie.spec returns shared-slice-read-if3 returns-2 digits-requires returns-3)
