@@ -8,9 +8,9 @@ use denote.Ref.{RefT, ptr, now}
 use lib.Dec.{eqb}
 use lib.ListN.{length, take, drop, getD}
 use Rattle.colour.specs.Question.{asks, firstNo}
-use Rattle.sheet.specs.Column.{newline, columnNumber, present}
 use Rattle.sheet.specs.declared.line.Line.{Line}
 use Rattle.sheet.specs.declared.lookup.Part.{Part}
+use Rattle.sheet.specs.Column.{newline, columnNumber, present}
 use Rattle.sheet.specs.Line.{lineOf, lineLength, nameStart}
 
 -- The eight bytes `SWATCHES`.

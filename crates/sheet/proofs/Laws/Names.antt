@@ -3,11 +3,11 @@ use Prim.Native.Nat.{ℕ, zero, suc, _-_, _≤_, _<_}
 use mathlib.Core.Bool.{Bool, true, false, and-false, and-eq-true-iff}
 use mathlib.Core.List.{List, [], _∷_, _++_, append-nil}
 use mathlib.Core.Path.{_≡_, refl, sym, _∙_, ap}
+use native.Mathlib.Omega.{arith}
 use lib.Dec.{leb, eqb}
 use lib.ListN.{length, getD, replicate, length-append, length-replicate}
 use lib.Seq.{drop-append-seam}
 use borrow.Author.Tests.{leb-true, eqb-true, le-leb, lt-leb}
-use native.Mathlib.Omega.{arith}
 use Rattle.sheet.specs.Column.{blank, trimmed}
 use Rattle.sheet.specs.Line.{nameColumns, nameByte, leading, nameGood, nameFieldGood}
 use Rattle.sheet.proofs.Laws.RoundTrip.Columns.{trimmed-blanks}

@@ -1,4 +1,5 @@
 -- `comes_back`: what write_line left stands as read_line has it, by laws of Trip.
+use borrow.Author.Needs.{needs}
 use mathlib.Core.Bool.{true≢false}
 use mathlib.Core.Path.{refl, sym, ap, _∙_}
 use native.Mathlib.Omega.{arith}
@@ -6,7 +7,6 @@ use borrow.Author.Tests.{not-true}
 use Rattle.sheet.specs.Answers.{lineAnswer, writtenNumber}
 use Rattle.sheet.proofs.Laws.Writing.Lines.{refused}
 use Rattle.sheet_trip.proofs.Trip.{Stands, Back, none-written, line-written, never-bad, reads-back}
-use borrow.Author.Needs.{needs}
 use Rattle.sheet_trip.proofs.comes_back.Statement.{statement}
 use Rattle.sheet_trip.proofs.comes_back.Tie as tie
 

@@ -1,6 +1,6 @@
 -- `main`: what is promised of each case, computed.
-use Rattle.sheet.specs.Computes.{sheetComputes}
 use borrow.Author.Needs.{needs}
+use Rattle.sheet.specs.Computes.{sheetComputes}
 use Rattle.sheet_trip.proofs.main.Statement.{statement}
 use Rattle.sheet_trip.proofs.main.Tie as tie
 

@@ -1,6 +1,6 @@
 -- `put_line_at`: the part that was lent comes back with what write_line left, by `line-put` of Trip.
-use Rattle.sheet_trip.proofs.Trip.{line-put}
 use borrow.Author.Needs.{needs}
+use Rattle.sheet_trip.proofs.Trip.{line-put}
 use Rattle.sheet_trip.proofs.put_line_at.Statement.{statement}
 use Rattle.sheet_trip.proofs.put_line_at.Tie as tie
 

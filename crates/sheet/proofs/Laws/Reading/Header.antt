@@ -9,8 +9,8 @@ use borrow.Author.Tests.{eqb-true, eq-eqb}
 use lib.Dec.{eqb}
 use lib.ListN.{length, take, drop, getD}
 use Rattle.colour.specs.Question.{firstNo}
-use Rattle.sheet.specs.Answers.{headerAnswer}
 use Rattle.sheet.specs.declared.header.Header.the-variants as H
+use Rattle.sheet.specs.Answers.{headerAnswer}
 use Rattle.sheet.specs.Column.{newline, columnNumber, present}
 use Rattle.sheet.specs.Line.{lineLength}
 use Rattle.sheet.specs.Steps.{within}

@@ -10,20 +10,20 @@ use lib.Dec.{leb, eqb}
 use lib.ListN.{length, drop, getD}
 use Rattle.colour.specs.declared.Sample.{Sample}
 use Rattle.colour.specs.Question.{firstNo}
-use Rattle.colour.proofs.Laws.Channels.{fit-codes}
 use Rattle.colour.specs.Colour.{Channel, Red, Green, Blue, codeIn, isTag, codesFit}
+use Rattle.colour.proofs.Laws.Channels.{fit-codes}
 use Rattle.sheet.specs.declared.line.Line.{Line}
 use Rattle.sheet.specs.declared.line.Reading.{Reading}
 use Rattle.sheet.specs.declared.line.Reading.the-variants as R
 use Rattle.sheet.specs.Answers.{lineAnswer}
 use Rattle.sheet.specs.Column.{blank, newline, trimmed, present}
+use Rattle.sheet.specs.Line.{blankAt, newlineAt, lineLength}
+use Rattle.sheet.specs.Line.{leading, nameGood, nameFieldGood, lineFrom, nameColumns, nameField, lineFormed, lineNumbers, lineOf, readLine}
+use Rattle.sheet.specs.Steps.{within, nameLengthIn, greatestTag, greatestCode}
 use Rattle.sheet.proofs.Laws.Reading.Digits.{within-yes, within-some}
 use Rattle.sheet.proofs.Laws.Text.{leading-twice, leading-most, trimmed-most}
 use Rattle.sheet.proofs.Laws.Names.{name-good}
 use Rattle.sheet.proofs.Laws.Ranges.{GoodRange, Ranged, from-holds}
-use Rattle.sheet.specs.Line.{blankAt, newlineAt, lineLength}
-use Rattle.sheet.specs.Line.{leading, nameGood, nameFieldGood, lineFrom, nameColumns, nameField, lineFormed, lineNumbers, lineOf, readLine}
-use Rattle.sheet.specs.Steps.{within, nameLengthIn, greatestTag, greatestCode}
 
 -- A reading that says what a line says is the line's answer, with its number.
 pub answer-is : (r : Reading) (s : List ℕ) → lineAnswer r .line ≡ lineOf s → lineAnswer r ≡ readLine s

@@ -4,12 +4,12 @@ use mathlib.Core.Bool.{Bool, true, false, _&&_}
 use mathlib.Core.List.{List, [], _∷_, _++_}
 use mathlib.Core.Option.{none, some}
 use mathlib.Core.Path.{_≡_, refl, _∙_, ap}
+use native.Mathlib.Nat.{pow-suc}
+use native.Mathlib.Omega.{arith}
 use lib.Dec.{leb, ltb}
 use lib.ListN.{length, take, drop, getD, replicate}
 use lib.Seq.{take-at, drop-at}
 use borrow.Author.Tests.{ltb-true, ltb-false, ne-eqb}
-use native.Mathlib.Nat.{pow-suc}
-use native.Mathlib.Omega.{arith}
 use Rattle.sheet.specs.Column.{blank, trimmed, digitsAfter, decimalIn, columnNumber, decimal, columnOf}
 use Rattle.sheet.proofs.Laws.Reading.Digits.{is-digit}
 use Rattle.sheet.proofs.Laws.Writing.Lengths.{column-length}

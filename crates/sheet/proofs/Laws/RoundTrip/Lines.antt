@@ -4,10 +4,10 @@ use mathlib.Core.Bool.{true, _&&_, and-eq-true-iff}
 use mathlib.Core.List.{List, [], _∷_, _++_, append-nil, append-assoc}
 use mathlib.Core.Option.{some}
 use mathlib.Core.Path.{_≡_, refl, sym, _∙_}
+use native.Mathlib.Omega.{arith}
 use lib.ListN.{length, take, drop, getD, length-append}
 use lib.Seq.{take-at, drop-at, getD-at, take-append-seam}
 use borrow.Author.Tests.{ltb-true, eq-eqb}
-use native.Mathlib.Omega.{arith}
 use Rattle.colour.specs.declared.Sample.{Sample}
 use Rattle.colour.specs.Colour.{Channel, Red, Green, Blue, codeIn, isTag, codesFit}
 use Rattle.colour.proofs.Laws.Channels.{fit-codes}

@@ -4,10 +4,10 @@ use mathlib.Core.Bool.{Bool, true, false, _&&_, and-eq-true-iff}
 use mathlib.Core.List.{List, [], _∷_, _++_, append-assoc}
 use mathlib.Core.Option.{some}
 use mathlib.Core.Path.{_≡_, refl, _∙_, ap}
+use native.Mathlib.Omega.{arith}
 use lib.Dec.{eqb}
 use lib.ListN.{length, take, drop, getD, length-append}
 use lib.Seq.{getD-at, drop-append-add}
-use native.Mathlib.Omega.{arith}
 use Rattle.colour.specs.Colour.{isTag, codesFit}
 use Rattle.sheet.specs.Column.{newline, columnNumber, columnOf}
 use Rattle.sheet.specs.Line.{nameStart, lineLength, nameGood, lineOf, lineBytes}

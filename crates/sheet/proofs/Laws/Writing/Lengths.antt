@@ -3,9 +3,9 @@ use Prim.Native.Nat.{ℕ, zero, suc, _+_, _-_, _/_, _%_, _≤_}
 use mathlib.Core.Bool.{Bool, true, false}
 use mathlib.Core.List.{List, [], _∷_}
 use mathlib.Core.Path.{_≡_, refl, _∙_}
+use native.Mathlib.Omega.{arith}
 use lib.Dec.{ltb}
 use lib.ListN.{length, replicate, length-append, length-replicate}
-use native.Mathlib.Omega.{arith}
 use Rattle.colour.specs.declared.Sample.{Sample}
 use Rattle.sheet.specs.Column.{blank, decimal, columnOf}
 use Rattle.sheet.specs.Line.{nameColumns, redStart, greenStart, blueStart, blankAt, nameStart, newlineAt, lineLength, numberColumns, lineBytes}

@@ -3,11 +3,11 @@ use Prim.Native.Nat.{ℕ, _+_, _-_, _≤_}
 use mathlib.Core.Bool.{Bool, true, false}
 use mathlib.Core.List.{List, [], _∷_, _++_, append-assoc}
 use mathlib.Core.Path.{_≡_, refl, sym, ap, _∙_}
+use mathlib.Core.Logic.{⊎-elim}
 use native.Mathlib.Omega.{arith}
 use borrow.Author.Tests.{eq-eqb, ne-eqb, leb-true}
 use types.Run.{OneOf}
 use denote.Enum.Declared.{tagOf}
-use mathlib.Core.Logic.{⊎-elim}
 use lib.Dec.{leb}
 use borrow.Rule.Slice.PartMut.{putMid}
 use lib.ListN.{length, take, drop, set, replicate, length-append, length-drop, length-replicate}
@@ -17,13 +17,13 @@ use Rattle.colour.specs.Colour.{codesFit}
 use Rattle.colour.specs.Question.{asks, firstNo}
 use Rattle.colour.proofs.Laws.Questions.{asked}
 use Rattle.sheet.specs.declared.writer.Written.{Written}
-use Rattle.sheet.proofs.writer.Written.{the-type}
 use Rattle.sheet.specs.declared.writer.Written.the-variants as W
 use Rattle.sheet.specs.Answers.{written, writtenNumber}
 use Rattle.sheet.specs.Computes.{sheetNumbers}
 use Rattle.sheet.specs.Column.{blank, newline, columnOf}
 use Rattle.sheet.specs.Line.{tagColumns, codeColumns, nameColumns, redStart, greenStart, blueStart, blankAt, nameStart, newlineAt, lineLength, nameGood, numberColumns, lineBytes, writeNumber, writeLine}
 use Rattle.sheet.specs.Steps.{putAt}
+use Rattle.sheet.proofs.writer.Written.{the-type}
 use Rattle.sheet.proofs.Laws.Parts.{put-next, set-next, part-put}
 use Rattle.sheet.proofs.Laws.Writing.Lengths.{column-length, numbers-length}
 

@@ -1,9 +1,9 @@
 -- `column::decimal_in`: each return by the tests that led there, by laws of Laws.Reading.Digits.
+use borrow.Author.Needs.{needs}
 use mathlib.Core.Logic.{⊎-elim}
 use mathlib.Core.Path.{sym, ap, _∙_}
 use Rattle.sheet.specs.Steps.{numberIs, within}
 use Rattle.sheet.proofs.Laws.Reading.Digits.{within-none, decimal-empty, leading-zero, decimal-single, decimal-plain}
-use borrow.Author.Needs.{needs}
 use Rattle.sheet.proofs.column.decimal_in.Statement.{statement}
 use Rattle.sheet.proofs.column.decimal_in.Tie as tie
 

@@ -1,10 +1,10 @@
 -- `column::digit_after`: each return by the tests that led there, by laws of Laws.Reading.Digits.
+use borrow.Author.Needs.{needs}
 use mathlib.Core.List.{[]}
 use mathlib.Core.Path.{sym, ap, _∙_}
 use native.Mathlib.Omega.{arith}
 use Rattle.sheet.specs.Steps.{numberIs, within}
 use Rattle.sheet.proofs.Laws.Reading.Digits.{within-none, within-yes, within-over, below-digits, above-digits, is-digit, not-digit, single}
-use borrow.Author.Needs.{needs}
 use Rattle.sheet.proofs.column.digit_after.Statement.{statement}
 use Rattle.sheet.proofs.column.digit_after.Tie as tie
 

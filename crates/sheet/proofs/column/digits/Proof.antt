@@ -1,4 +1,5 @@
 -- `column::digits`: what is left to read goes on from the number read so far.
+use borrow.Author.Needs.{needs}
 use Prim.Native.Nat.{_-_, _≤_}
 use mathlib.Core.Path.{_≡_, refl, sym, ap, _∙_}
 use native.Mathlib.Omega.{arith}
@@ -6,7 +7,6 @@ use lib.ListN.{length, drop}
 use Rattle.sheet.specs.Column.{digitsAfter}
 use Rattle.sheet.specs.Steps.{numberIs, within}
 use Rattle.sheet.proofs.Laws.Reading.Digits.{digits-stop, digits-more, digits-end}
-use borrow.Author.Needs.{needs}
 use Rattle.sheet.proofs.column.digits.Statement.{statement}
 use Rattle.sheet.proofs.column.digits.Tie as tie
 

@@ -1,4 +1,5 @@
 -- `column::put_number`: the places after i are written, and what is left of the number goes before them.
+use borrow.Author.Needs.{needs}
 use Prim.Native.Nat.{_+_, _-_, _%_, _≤_}
 use mathlib.Core.List.{_++_}
 use mathlib.Core.Path.{_≡_, refl, sym, _∙_}
@@ -7,7 +8,6 @@ use lib.ListN.{length, drop, set, length-set}
 use lib.Seq.{length-front, length-take-le}
 use Rattle.sheet.specs.Column.{columnOf}
 use Rattle.sheet.proofs.Laws.Writing.Columns.{none-written, all-written, digit-last, digit-more}
-use borrow.Author.Needs.{needs}
 use Rattle.sheet.proofs.column.put_number.Statement.{statement}
 use Rattle.sheet.proofs.column.put_number.Tie as tie
 

@@ -1,11 +1,11 @@
 -- `column::read_number`: the text after the blanks is the trimmed text.
+use borrow.Author.Needs.{needs}
 use mathlib.Core.Path.{ap, _∙_}
 use native.Mathlib.Omega.{arith}
 use Rattle.sheet.specs.Column.{decimalIn, columnNumber}
 use Rattle.sheet.specs.Steps.{within}
 use Rattle.sheet.proofs.Laws.Parts.{part-tail}
 use Rattle.sheet.proofs.Laws.Text.{after-blanks}
-use borrow.Author.Needs.{needs}
 use Rattle.sheet.proofs.column.read_number.Statement.{statement}
 use Rattle.sheet.proofs.column.read_number.Tie as tie
 

@@ -1,10 +1,10 @@
 -- `header::line_at`: the part handed on is the line.
+use borrow.Author.Needs.{needs}
 use mathlib.Core.Path.{ap, _∙_}
 use native.Mathlib.Omega.{arith}
 use Rattle.sheet.specs.Line.{readLine}
 use Rattle.sheet.specs.Computes.{sheetNumbers}
 use Rattle.sheet.proofs.Laws.Reading.Header.{line-ends, line-part-is}
-use borrow.Author.Needs.{needs}
 use Rattle.sheet.proofs.header.line_at.Statement.{statement}
 use Rattle.sheet.proofs.header.line_at.Tie as tie
 

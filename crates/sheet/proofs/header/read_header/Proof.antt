@@ -1,16 +1,16 @@
 -- `header::read_header`: each return by the tests that led there, by laws of Laws.Reading.Header.
+use borrow.Author.Needs.{needs}
 use mathlib.Core.Option.{some}
 use mathlib.Core.Path.{sym, ap, _∙_}
 use native.Mathlib.Omega.{arith}
 use borrow.Author.Tests.{not-true, not-false}
+use lib.Seq.{length-take-le}
 use Rattle.sheet.specs.Steps.{numberIs}
 use Rattle.sheet.specs.Sheet.{title}
 use Rattle.sheet.specs.Computes.{sheetNumbers}
 use Rattle.sheet.specs.Column.{newline}
 use Rattle.sheet.proofs.Laws.Reading.Digits.{within-some}
 use Rattle.sheet.proofs.Laws.Reading.Header.{good, not-good, not-titled, count-found, count-is}
-use borrow.Author.Needs.{needs}
-use lib.Seq.{length-take-le}
 use Rattle.sheet.proofs.header.read_header.Statement.{statement}
 use Rattle.sheet.proofs.header.read_header.Tie as tie
 

@@ -1,4 +1,5 @@
 -- `line::code_at`: the columns handed on are the code's.
+use borrow.Author.Needs.{needs}
 use Prim.Native.Nat.{_+_, _-_}
 use mathlib.Core.Path.{_≡_, ap, _∙_}
 use native.Mathlib.Omega.{arith}
@@ -6,7 +7,6 @@ use lib.ListN.{take, drop}
 use Rattle.sheet.specs.Column.{columnNumber}
 use Rattle.sheet.specs.Line.{codeColumns, codeColumn}
 use Rattle.sheet.specs.Steps.{within, greatestCode}
-use borrow.Author.Needs.{needs}
 use Rattle.sheet.proofs.line.code_at.Statement.{statement}
 use Rattle.sheet.proofs.line.code_at.Tie as tie
 

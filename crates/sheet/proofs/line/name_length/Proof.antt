@@ -1,9 +1,9 @@
 -- `line::name_length`: each return by the tests that led there, by laws of Laws.Reading.Lines.
+use borrow.Author.Needs.{needs}
 use native.Mathlib.Omega.{arith}
 use Rattle.sheet.proofs.Laws.Parts.{part-tail}
 use Rattle.sheet.proofs.Laws.Text.{leading-most}
 use Rattle.sheet.proofs.Laws.Reading.Lines.{name-followed, name-alone}
-use borrow.Author.Needs.{needs}
 use Rattle.sheet.proofs.line.name_length.Statement.{statement}
 use Rattle.sheet.proofs.line.name_length.Tie as tie
 

@@ -1,4 +1,5 @@
 -- `line::numbers`: what the columns hold, by laws of Laws.Reading.Lines.
+use borrow.Author.Needs.{needs}
 use mathlib.Core.Path.{sym, ap, _∙_}
 use native.Mathlib.Omega.{arith}
 use lib.Seq.{length-take-le}
@@ -10,7 +11,6 @@ use Rattle.sheet.specs.Steps.{numberIs, greatestTag, greatestCode}
 use Rattle.sheet.proofs.Laws.Reading.Digits.{within-some}
 use Rattle.sheet.proofs.Laws.Numbers.{line-length-is}
 use Rattle.sheet.proofs.Laws.Reading.Lines.{no-tag, no-code, all-numbers}
-use borrow.Author.Needs.{needs}
 use Rattle.sheet.proofs.line.numbers.Statement.{statement}
 use Rattle.sheet.proofs.line.numbers.Tie as tie
 

@@ -1,5 +1,5 @@
 -- `line::read_line`: each return by the tests that led there, by laws of Laws.Reading.Lines.
-use Prim.Native.Nat.{_-_}
+use borrow.Author.Needs.{needs}
 use mathlib.Core.Path.{sym, _∙_}
 use native.Mathlib.Omega.{arith}
 use lib.ListN.{drop, length-take}
@@ -9,7 +9,6 @@ use Rattle.sheet.specs.Column.{blank, newline}
 use Rattle.sheet.specs.Computes.{sheetNumbers}
 use Rattle.sheet.specs.Line.{nameField}
 use Rattle.sheet.proofs.Laws.Reading.Lines.{answer-is, other-length, no-blank, no-newline, no-name, has-name}
-use borrow.Author.Needs.{needs}
 use Rattle.sheet.proofs.line.read_line.Statement.{statement}
 use Rattle.sheet.proofs.line.read_line.Tie as tie
 

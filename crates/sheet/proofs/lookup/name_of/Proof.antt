@@ -1,7 +1,7 @@
 -- `lookup::name_of`: the part lies within the sheet, so that it can be handed back.
+use borrow.Author.Needs.{needs}
 use native.Mathlib.Omega.{arith}
 use Rattle.sheet.proofs.Laws.Reading.Lookup.{part-within, name-in}
-use borrow.Author.Needs.{needs}
 use Rattle.sheet.proofs.lookup.name_of.Statement.{statement}
 use Rattle.sheet.proofs.lookup.name_of.Tie as tie
 

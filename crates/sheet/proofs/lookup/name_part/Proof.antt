@@ -1,4 +1,5 @@
 -- `lookup::name_part`: the part found so far, and the lines left, give the part that is handed back.
+use borrow.Author.Needs.{needs}
 use Prim.Native.Nat.{_-_}
 use mathlib.Core.Logic.{⊎-elim}
 use native.Mathlib.Omega.{arith}
@@ -7,7 +8,6 @@ use Rattle.sheet.specs.Sheet.{emptyPart}
 use Rattle.sheet.specs.Computes.{sheetNumbers}
 use Rattle.sheet.proofs.Laws.Reading.Header.{line-ends}
 use Rattle.sheet.proofs.Laws.Reading.Lookup.{SoFar, header-says, line-says, no-header, begins, bad-line, ends, found-before, another-tag, finds}
-use borrow.Author.Needs.{needs}
 use Rattle.sheet.proofs.lookup.name_part.Statement.{statement}
 use Rattle.sheet.proofs.lookup.name_part.Tie as tie
 

@@ -1,11 +1,11 @@
 -- `text::blanks`: the blanks passed are those before the text.
+use borrow.Author.Needs.{needs}
 use Prim.Native.Nat.{_≤_, _-_}
 use mathlib.Core.Path.{_≡_, refl, _∙_}
 use native.Mathlib.Omega.{arith}
 use lib.ListN.{length, drop}
 use Rattle.sheet.specs.Column.{blank, trimmed}
 use Rattle.sheet.proofs.Laws.Text.{trimmed-blank, trimmed-stops, trimmed-end, blanks-first}
-use borrow.Author.Needs.{needs}
 use Rattle.sheet.proofs.text.blanks.Statement.{statement}
 use Rattle.sheet.proofs.text.blanks.Tie as tie
 

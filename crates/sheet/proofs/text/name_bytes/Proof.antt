@@ -1,11 +1,11 @@
 -- `text::name_bytes`: the bytes passed are the name bytes that stand first.
+use borrow.Author.Needs.{needs}
 use Prim.Native.Nat.{_+_, _-_, _≤_}
 use mathlib.Core.Path.{_≡_}
 use native.Mathlib.Omega.{arith}
 use lib.ListN.{length, drop}
 use Rattle.sheet.specs.Line.{leading}
 use Rattle.sheet.proofs.Laws.Text.{below-names, above-names, is-named, leading-more, leading-stops, leading-end}
-use borrow.Author.Needs.{needs}
 use Rattle.sheet.proofs.text.name_bytes.Statement.{statement}
 use Rattle.sheet.proofs.text.name_bytes.Tie as tie
 

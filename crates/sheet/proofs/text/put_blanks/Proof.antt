@@ -1,4 +1,5 @@
 -- `text::put_blanks`: what was passed is blank.
+use borrow.Author.Needs.{needs}
 use Prim.Native.Nat.{_-_, _≤_}
 use mathlib.Core.List.{_++_}
 use mathlib.Core.Path.{_≡_, refl, _∙_}
@@ -7,7 +8,6 @@ use lib.ListN.{length, drop, replicate, length-set}
 use borrow.Author.Fill.{fill-none, fill-more}
 use Rattle.sheet.specs.Column.{blank}
 use Rattle.sheet.proofs.Laws.Text.{fill-all}
-use borrow.Author.Needs.{needs}
 use Rattle.sheet.proofs.text.put_blanks.Statement.{statement}
 use Rattle.sheet.proofs.text.put_blanks.Tie as tie
 

@@ -1,4 +1,5 @@
 -- `text::put_left`: what was passed is the text, and the rest is blank.
+use borrow.Author.Needs.{needs}
 use Prim.Native.Nat.{_-_, _≤_}
 use mathlib.Core.List.{_++_}
 use mathlib.Core.Path.{_≡_, refl, _∙_}
@@ -7,7 +8,6 @@ use borrow.Rule.Slice.PartMut.{same-len-mid}
 use lib.ListN.{length, take, drop, length-set}
 use Rattle.sheet.specs.Column.{blank}
 use Rattle.sheet.proofs.Laws.Parts.{copy-more, left-whole}
-use borrow.Author.Needs.{needs}
 use Rattle.sheet.proofs.text.put_left.Statement.{statement}
 use Rattle.sheet.proofs.text.put_left.Tie as tie
 

@@ -1,11 +1,11 @@
 -- `text::same`: the texts are the same as far as they were compared.
+use borrow.Author.Needs.{needs}
 use Prim.Native.Nat.{_-_, _≤_}
 use mathlib.Core.Path.{_≡_, refl, sym, _∙_}
 use native.Mathlib.Omega.{arith}
 use lib.ListN.{length, drop}
 use Rattle.sheet.specs.Sheet.{sameBytes}
 use Rattle.sheet.proofs.Laws.Text.{lengths-differ, same-more, same-stops, same-end}
-use borrow.Author.Needs.{needs}
 use Rattle.sheet.proofs.text.same.Statement.{statement}
 use Rattle.sheet.proofs.text.same.Tie as tie
 

@@ -1,7 +1,7 @@
 -- `writer::name_good`: each return by the tests that led there.
+use borrow.Author.Needs.{needs}
 use Rattle.sheet.specs.Line.{nameColumns}
 use Rattle.sheet.proofs.Laws.Names.{name-empty, name-too-long, name-tested}
-use borrow.Author.Needs.{needs}
 use Rattle.sheet.proofs.writer.name_good.Statement.{statement}
 use Rattle.sheet.proofs.writer.name_good.Tie as tie
 

@@ -1,7 +1,7 @@
 -- `writer::number_of`: the number of each case.
+use borrow.Author.Needs.{needs}
 use mathlib.Core.Path.{sym, ap}
 use Rattle.sheet.specs.Answers.{writtenNumber}
-use borrow.Author.Needs.{needs}
 use Rattle.sheet.proofs.writer.number_of.Statement.{statement}
 use Rattle.sheet.proofs.writer.number_of.Tie as tie
 

@@ -1,4 +1,5 @@
 -- `writer::put_line`: the numbers, the blank, the name and the newline, one after another.
+use borrow.Author.Needs.{needs}
 use mathlib.Core.Path.{_≡_, _∙_}
 use native.Mathlib.Omega.{arith}
 use borrow.Rule.Slice.PartMut.{putMid, same-len-mid}
@@ -8,7 +9,6 @@ use Rattle.sheet.specs.Computes.{sheetNumbers}
 use Rattle.sheet.specs.Line.{nameColumns, blankAt, nameStart}
 use Rattle.sheet.proofs.Laws.Numbers.{line-length-is}
 use Rattle.sheet.proofs.Laws.Writing.Lines.{name-room, line-written}
-use borrow.Author.Needs.{needs}
 use Rattle.sheet.proofs.writer.put_line.Statement.{statement}
 use Rattle.sheet.proofs.writer.put_line.Tie as tie
 

@@ -1,8 +1,8 @@
 -- `writer::put_number_at`: the part that was lent comes back written.
+use borrow.Author.Needs.{needs}
 use Prim.Native.Nat.{_+_, _-_}
 use borrow.Rule.Slice.PartMut.{same-len-mid}
 use Rattle.sheet.proofs.Laws.Writing.Lines.{column-put}
-use borrow.Author.Needs.{needs}
 use Rattle.sheet.proofs.writer.put_number_at.Statement.{statement}
 use Rattle.sheet.proofs.writer.put_number_at.Tie as tie
 

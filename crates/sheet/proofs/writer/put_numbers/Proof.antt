@@ -1,8 +1,8 @@
 -- `writer::put_numbers`: the four numbers are written one after another.
+use borrow.Author.Needs.{needs}
 use native.Mathlib.Omega.{arith}
 use Rattle.sheet.specs.Computes.{sheetNumbers}
 use Rattle.sheet.proofs.Laws.Writing.Lines.{numbers-written}
-use borrow.Author.Needs.{needs}
 use Rattle.sheet.proofs.writer.put_numbers.Statement.{statement}
 use Rattle.sheet.proofs.writer.put_numbers.Tie as tie
 

@@ -1,10 +1,10 @@
 -- `writer::write_line`: the first no gives the answer; where there is none, put_line wrote the line.
+use borrow.Author.Needs.{needs}
 use mathlib.Core.Path.{refl, ap}
 use Rattle.sheet.specs.Answers.{writtenNumber}
 use Rattle.sheet.specs.Computes.{sheetNumbers}
 use Rattle.sheet.proofs.Laws.Names.{name-good}
 use Rattle.sheet.proofs.Laws.Writing.Lines.{refused, left-alone, all-yes, line-stands}
-use borrow.Author.Needs.{needs}
 use Rattle.sheet.proofs.writer.write_line.Statement.{statement}
 use Rattle.sheet.proofs.writer.write_line.Tie as tie
 
