@@ -18,7 +18,7 @@ part-result-start : tie.Need-part-result-start
 part-result-start c = search needs
 
 part-result-end : tie.Need-part-result-end
-part-result-end c = let d = c .before in part-within (d .before .before .args .sheet) _ _ (d .name-part .ensures)
+part-result-end c = let d = c .before in omega (arith, part-within (d .before .before .args .sheet) _ _ (d .name-part .ensures))
 
 returns : tie.Need-returns
 returns c = name-in _ _ _ (c .before .before .name-part .ensures) _
