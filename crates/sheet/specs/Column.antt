@@ -13,6 +13,14 @@ blank = 32
 unfoldable pub newline : ℕ
 newline = 10
 
+-- A byte from low to high.
+unfoldable pub between : ℕ → ℕ → ℕ → Bool
+between low high x = leb low x && leb x high
+
+-- A digit: 48..57.
+unfoldable pub digitByte : ℕ → Bool
+digitByte x = between 48 57 x
+
 -- The text without the blanks before it.
 unfoldable pub trimmed : List ℕ → List ℕ
 trimmed [] = []
@@ -21,7 +29,7 @@ trimmed (x ∷ rest) = elim (eqb x blank) [ true ↦ trimmed rest | false ↦ x 
 -- The decimal number that n followed by these digits gives; none where a byte is no digit.
 unfoldable pub digitsAfter : ℕ → List ℕ → Option ℕ
 digitsAfter n [] = some n
-digitsAfter n (x ∷ rest) = elim (leb 48 x && leb x 57) [ true ↦ digitsAfter (10 * n + (x - 48)) rest | false ↦ none ]
+digitsAfter n (x ∷ rest) = elim (digitByte x) [ true ↦ digitsAfter (10 * n + (x - 48)) rest | false ↦ none ]
 
 -- Decimal, no leading zero but in 0 itself.
 unfoldable pub decimalIn : List ℕ → Option ℕ

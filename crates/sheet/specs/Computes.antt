@@ -1,6 +1,6 @@
 -- Names that open definitions together. A proof that computes with them says `unfolding sheetComputes`.
 use Rattle.colour.specs.Computes.{colourComputes}
-use Rattle.sheet.specs.Column.{blank, newline, trimmed, digitsAfter, decimalIn, columnNumber, present, decimal, columnOf}
+use Rattle.sheet.specs.Column.{blank, newline, between, digitByte, trimmed, digitsAfter, decimalIn, columnNumber, present, decimal, columnOf}
 use Rattle.sheet.specs.Line.{tagColumns, codeColumns, nameColumns, redStart, greenStart, blueStart, blankAt, nameStart, newlineAt, lineLength}
 use Rattle.sheet.specs.Line.{nameByte, leading, nameGood, nameFieldGood, lineFrom, nameField, lineFormed, codeColumn, lineNumbers, lineOf, readLine}
 use Rattle.sheet.specs.Line.{numberColumns, lineBytes, writeNumber, writeLine}
@@ -17,7 +17,7 @@ sheetNumbers = tt
 
 -- Every definition of this crate and of `colour`.
 unfoldable pub sheetComputes : Unit {0}
-unfolding colourComputes sheetNumbers blank newline trimmed digitsAfter decimalIn columnNumber present within decimal columnOf putAt
+unfolding colourComputes sheetNumbers blank newline between digitByte trimmed digitsAfter decimalIn columnNumber present within decimal columnOf putAt
     nameByte leading nameGood nameFieldGood lineFrom nameLengthIn nameField lineFormed codeColumn lineNumbers lineOf readLine
     numberColumns lineBytes writeNumber writeLine
     sameBytes headerFormed countIf lineCount readHeader linePart linesFrom linesBy linesOf

@@ -10,7 +10,7 @@ use Rattle.colour.specs.declared.Sample.{Sample}
 use Rattle.colour.specs.Colour.{isTag, codesFit}
 use Rattle.colour.specs.Question.{asks, firstNo}
 use Rattle.sheet.specs.declared.line.Line.{Line}
-use Rattle.sheet.specs.Column.{blank, newline, trimmed, columnNumber, present, columnOf}
+use Rattle.sheet.specs.Column.{between, blank, newline, trimmed, columnNumber, present, columnOf}
 
 -- The columns of a line, and where each starts.
 unfoldable pub tagColumns : ℕ
@@ -46,7 +46,7 @@ lineLength = newlineAt + 1
 
 -- A byte of a name: 33..126.
 unfoldable pub nameByte : ℕ → Bool
-nameByte x = leb 33 x && leb x 126
+nameByte x = between 33 126 x
 
 -- The name bytes that stand first.
 unfoldable pub leading : List ℕ → List ℕ

@@ -8,9 +8,9 @@ use lib.Dec.{leb, eqb}
 use lib.ListN.{length, getD, replicate, length-append, length-replicate}
 use lib.Seq.{drop-append-seam}
 use borrow.Author.Tests.{leb-true, eqb-true, le-leb, lt-leb}
-use Rattle.sheet.specs.Column.{blank, trimmed}
+use Rattle.sheet.specs.Column.{between, blank, trimmed}
 use Rattle.sheet.specs.Line.{nameColumns, nameByte, leading, nameGood, nameFieldGood}
-use Rattle.sheet.proofs.Laws.RoundTrip.Columns.{trimmed-blanks}
+use Rattle.sheet.proofs.Laws.Text.{trimmed-blanks}
 
 -- What the test of a name says: it has a byte, it fits its columns, and all of it is name bytes.
 pub record GoodName (name : List ℕ) : Type 0 where
@@ -55,7 +55,7 @@ name-tested name n some-byte fits e = rw (le-leb 1 (length name) some-byte, le-l
 
 -- A name of name bytes is what is read before blanks.
 leading-blanks : (name : List ℕ) (k : ℕ) → length (leading name) ≡ length name → leading (name ++ replicate k blank) ≡ name
-unfolding leading nameByte blank
+unfolding between leading nameByte blank
 leading-blanks [] zero e = refl
 leading-blanks [] (suc k) e = refl
 leading-blanks (x ∷ rest) k e = go (nameByte x) refl (leading-blanks rest k)
@@ -72,9 +72,9 @@ unfoldable pub filled : List ℕ → List ℕ
 filled name = name ++ replicate (nameColumns - length name) blank
 
 -- They are all filled.
-pub filled-length : (name : List ℕ) → GoodName name → length (filled name) ≡ nameColumns
+pub filled-length : (name : List ℕ) → length name ≤ nameColumns → length (filled name) ≡ nameColumns
 unfolding filled
-filled-length name g = simp length-append (omega (arith, length-replicate (nameColumns - length name) blank, g .fits))
+filled-length name fits = simp length-append (omega (arith, length-replicate (nameColumns - length name) blank))
 
 -- The name is read from them, and they are good.
 pub filled-name : (name : List ℕ) → GoodName name → leading (filled name) ≡ name

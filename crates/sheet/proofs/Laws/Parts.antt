@@ -1,11 +1,11 @@
 -- A text as its parts are written, and parts that were lent and came back.
-use Prim.Native.Nat.{ℕ, suc, _+_, _-_, _<_}
+use Prim.Native.Nat.{ℕ, suc, _+_, _-_, _≤_, _<_}
 use mathlib.Core.List.{List, [], _∷_, _++_, append-nil, append-assoc}
 use mathlib.Core.Path.{_≡_, sym, ap, _∙_}
 use native.Mathlib.Numerals.{add-one}
 use native.Mathlib.Omega.{arith}
 use borrow.Rule.Slice.PartMut.{putMid}
-use lib.ListN.{length, take, drop, getD, set, replicate, length-drop, drop-of-length-le}
+use lib.ListN.{length, take, drop, getD, set, replicate, length-drop, drop-of-length-le, take-append-drop}
 use lib.Seq.{take-all, take-suc, take-at, drop-at, drop-drop, set-at, set-split, length-take-le}
 use Rattle.sheet.specs.Steps.{putAt}
 use Rattle.sheet.proofs.Laws.Text.{next-byte}
@@ -13,6 +13,13 @@ use Rattle.sheet.proofs.Laws.Text.{next-byte}
 -- A part to the end of a text is the text from there on.
 pub part-tail : (s : List ℕ) (a : ℕ) → take (length s - a) (drop a s) ≡ drop a s
 part-tail s a = take-all (length s - a) (drop a s) (omega (arith, length-drop a s))
+
+-- A text from byte `at` on is the next w bytes and the text after them.
+pub part-first : (s : List ℕ) (at w : ℕ) → drop at s ≡ take w (drop at s) ++ drop (at + w) s
+part-first s at w = sym (rw (← drop-drop w at s) (take-append-drop w (drop at s)))
+
+pub part-length : (s : List ℕ) (at w : ℕ) → at + w ≤ length s → length (take w (drop at s)) ≡ w
+part-length s at w room = length-take-le w (drop at s) (omega (arith, length-drop at s))
 
 -- A part to the end that was lent stands in its place.
 pub put-tail : (a : ℕ) (s t : List ℕ) → putMid a (length s - a) s t ≡ take a s ++ t

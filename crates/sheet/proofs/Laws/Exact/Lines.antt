@@ -13,37 +13,25 @@ use lib.Seq.{take-append-seam, length-take-le, drop-drop}
 use Rattle.colour.specs.Colour.{Red, Green, Blue, codeIn}
 use Rattle.sheet.specs.declared.line.Line.{Line}
 use Rattle.sheet.specs.Computes.{sheetNumbers}
-use Rattle.sheet.specs.Column.{blank, newline, trimmed, digitsAfter, decimalIn, columnNumber, columnOf}
+use Rattle.sheet.specs.Column.{digitByte, blank, newline, trimmed, digitsAfter, decimalIn, columnNumber, columnOf}
 use Rattle.sheet.specs.Line.{tagColumns, codeColumns, nameColumns, redStart, greenStart, blueStart, blankAt, nameStart, newlineAt, lineLength}
 use Rattle.sheet.specs.Line.{nameByte, leading, nameGood, nameFieldGood, nameField, lineFormed, codeColumn, lineNumbers, lineOf, numberColumns, lineBytes}
 use Rattle.sheet.proofs.Laws.Writing.Columns.{column-last, column-more}
 use Rattle.sheet.proofs.Laws.Reading.Digits.{not-digit, one-digit}
 use Rattle.sheet.proofs.Laws.Reading.Lines.{Numbers, codes, says}
 use Rattle.sheet.proofs.Laws.Names.{filled}
-use Rattle.sheet.proofs.Laws.Text.{next-byte, skip, stay, trimmed-most}
-
--- A text is the blanks before it and what stands after them.
-blanks-before : (s : List ℕ) → s ≡ replicate (length s - length (trimmed s)) blank ++ trimmed s
-unfolding trimmed
-blanks-before [] = refl
-blanks-before (x ∷ rest) = go (eqb x blank) refl (blanks-before rest)
-  where
-    go : (q : Bool) → eqb x blank ≡ q → rest ≡ replicate (length rest - length (trimmed rest)) blank ++ trimmed rest
-        → x ∷ rest ≡ replicate (length (x ∷ rest) - length (trimmed (x ∷ rest))) blank ++ trimmed (x ∷ rest)
-    go true t ih =
-        let more : suc (length rest) - length (trimmed rest) ≡ suc (length rest - length (trimmed rest)) = omega (arith, trimmed-most rest) in
-        rw (skip x rest (eqb-true x blank t), more) (cc (eqb-true x blank t))
-    go false t ih =
-        let no-more : suc (length rest) - suc (length rest) ≡ 0 = omega arith in
-        rw (stay x rest (eqb-false x blank t), no-more)
+use Rattle.sheet.proofs.Laws.Parts.{part-first, part-length}
+use Rattle.sheet.proofs.Laws.Text.{range-ends, next-byte, trimmed-most, blanks-before, leading-first}
 
 -- A byte that is a digit, alone after blanks, and after the digits of m.
-module _ (x : ℕ) (d : (leb 48 x && leb x 57) ≡ true) where
+module _ (x : ℕ) (d : digitByte x ≡ true) where
   low : 48 ≤ x
-  low = leb-true 48 x (and-eq-true-iff (leb 48 x) (leb x 57) .0 d .0)
+  unfolding digitByte
+  low = range-ends 48 57 x d .0
 
   high : x ≤ 57
-  high = leb-true x 57 (and-eq-true-iff (leb 48 x) (leb x 57) .0 d .1)
+  unfolding digitByte
+  high = range-ends 48 57 x d .1
 
   first-digit : (w : ℕ) → replicate w blank ++ (x ∷ []) ≡ columnOf (suc w) (x - 48)
   first-digit w =
@@ -65,9 +53,9 @@ digits-exact w m n [] leads e =
     rw (append-nil, all, same)
 digits-exact w m n (x ∷ rest) leads e =
     let pos = leads (omega arith) in
-    go (leb 48 x && leb x 57) refl pos (digits-exact (suc w) (10 * m + (x - 48)) n rest (λ h. omega arith))
+    go (digitByte x) refl pos (digits-exact (suc w) (10 * m + (x - 48)) n rest (λ h. omega arith))
   where
-    go : (q : Bool) → (leb 48 x && leb x 57) ≡ q → 0 < m
+    go : (q : Bool) → digitByte x ≡ q → 0 < m
         → (digitsAfter (10 * m + (x - 48)) rest ≡ some n → columnOf (suc w) (10 * m + (x - 48)) ++ rest ≡ columnOf (suc w + length rest) n)
         → columnOf w m ++ (x ∷ rest) ≡ columnOf (w + suc (length rest)) n
     go true d pos ih =
@@ -94,9 +82,9 @@ is-decimal (x ∷ (y ∷ rest)) n e = go (eqb x 48) refl
 -- It is written so, whatever the blanks before it.
 decimal-exact : (k n : ℕ) (s : List ℕ) → Decimal s n → replicate k blank ++ s ≡ columnOf (k + length s) n
 decimal-exact k n [] g = absurd (omega (arith, g .some-digit))
-decimal-exact k n (x ∷ rest) g = go (leb 48 x && leb x 57) refl
+decimal-exact k n (x ∷ rest) g = go (digitByte x) refl
   where
-    go : (q : Bool) → (leb 48 x && leb x 57) ≡ q → replicate k blank ++ (x ∷ rest) ≡ columnOf (k + suc (length rest)) n
+    go : (q : Bool) → digitByte x ≡ q → replicate k blank ++ (x ∷ rest) ≡ columnOf (k + suc (length rest)) n
     go true d =
         let size : k + suc (length rest) ≡ suc k + length rest = omega arith in
         let digit : 10 * 0 + (x - 48) ≡ x - 48 = omega arith in
@@ -119,9 +107,9 @@ digits-fit w m n [] h e =
     let same : m ≡ n = Option·some-injective m n e in
     let all : w + 0 ≡ w = omega arith in
     rw (all, ← same) h
-digits-fit w m n (x ∷ rest) h e = go (leb 48 x && leb x 57) refl (digits-fit (suc w) (10 * m + (x - 48)) n rest)
+digits-fit w m n (x ∷ rest) h e = go (digitByte x) refl (digits-fit (suc w) (10 * m + (x - 48)) n rest)
   where
-    go : (q : Bool) → (leb 48 x && leb x 57) ≡ q
+    go : (q : Bool) → digitByte x ≡ q
         → (10 * m + (x - 48) < 10 ^ suc w → digitsAfter (10 * m + (x - 48)) rest ≡ some n → n < 10 ^ (suc w + length rest))
         → n < 10 ^ (w + suc (length rest))
     go true d ih =
@@ -137,17 +125,6 @@ column-fits s n e =
     let most : 0 + length (trimmed s) ≤ length s = omega (arith, trimmed-most s) in
     let power : 10 ^ (0 + length (trimmed s)) ≤ 10 ^ length s = pow-le-pow-right (omega arith) most in
     omega arith
-
--- A text is the name bytes that stand first and what follows them.
-leading-first : (s : List ℕ) → s ≡ leading s ++ drop (length (leading s)) s
-unfolding leading
-leading-first [] = refl
-leading-first (x ∷ rest) = go (nameByte x) refl (leading-first rest)
-  where
-    go : (q : Bool) → nameByte x ≡ q → rest ≡ leading rest ++ drop (length (leading rest)) rest
-        → x ∷ rest ≡ leading (x ∷ rest) ++ drop (length (leading (x ∷ rest))) (x ∷ rest)
-    go true t ih = rw (t, leading, ← ih)
-    go false t ih = rw (t, leading)
 
 -- A text with nothing but blanks in it.
 all-blank : (s : List ℕ) → length (trimmed s) ≡ 0 → s ≡ replicate (length s) blank
@@ -195,13 +172,6 @@ good-line s l e = go (lineFormed s) refl
     go : (q : Bool) → lineFormed s ≡ q → Good s l
     go true t = record { formed = formed s t; numbers = says _ _ _ _ _ l (rw (t, lineOf) at e) }
     go false t = absurd (Option·none-ne-some l (rw (t, lineOf) at e))
-
--- A text from byte `at` on is the next w bytes and the text after them.
-pub part-first : (s : List ℕ) (at w : ℕ) → drop at s ≡ take w (drop at s) ++ drop (at + w) s
-part-first s at w = sym (rw (← drop-drop w at s) (take-append-drop w (drop at s)))
-
-pub part-length : (s : List ℕ) (at w : ℕ) → at + w ≤ length s → length (take w (drop at s)) ≡ w
-part-length s at w room = length-take-le w (drop at s) (omega (arith, length-drop at s))
 
 -- The column that starts at byte `at` and reads as n is the column written from n.
 pub number-exact : (s : List ℕ) (at w n : ℕ) → at + w ≤ length s → columnNumber (take w (drop at s)) ≡ some n

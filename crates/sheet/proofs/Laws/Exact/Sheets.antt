@@ -12,21 +12,12 @@ use Rattle.sheet.specs.declared.line.Line.{Line}
 use Rattle.sheet.specs.Line.{nameStart, lineLength, lineOf}
 use Rattle.sheet.specs.Sheet.{title, sameBytes, countColumns, headerLength, lineStart, lineCount, linePart, linesFrom, linesBy, linesOf, allGood}
 use Rattle.sheet.specs.Entries.{Entry, headerBytes, linesBytes, sheetBytes, entryGood, entriesGood, lineSaid, linesSaid}
-use Rattle.sheet.proofs.Laws.Exact.Lines.{part-first, part-length, number-exact, column-fits, line-exact, line-name-good, line-name-size}
+use Rattle.sheet.proofs.Laws.Exact.Lines.{number-exact, column-fits, line-exact, line-name-good, line-name-size}
 use Rattle.sheet.proofs.Laws.Reading.Header.{Formed, formed, line-ends}
 use Rattle.sheet.proofs.Laws.Numbers.{line-start-is}
 use Rattle.sheet.proofs.Laws.Ranges.{GoodRange, Ranged, line-ranged}
-use Rattle.sheet.proofs.Laws.Text.{next-byte}
-
--- Two texts that compare as the same are the same.
-same-bytes : (a b : List ℕ) → sameBytes a b ≡ true → a ≡ b
-unfolding sameBytes
-same-bytes [] [] e = refl
-same-bytes [] (y ∷ ys) e = cc
-same-bytes (x ∷ xs) [] e = cc
-same-bytes (x ∷ xs) (y ∷ ys) e =
-    let h = and-eq-true-iff (eqb x y) (sameBytes xs ys) .0 e in
-    cc (eqb-true x y (h .0), same-bytes xs ys (h .1))
+use Rattle.sheet.proofs.Laws.Parts.{part-first, part-length}
+use Rattle.sheet.proofs.Laws.Text.{next-byte, same-bytes}
 
 -- A sheet with a good header is as long as the header, at the least.
 header-room : (s : List ℕ) (n : ℕ) → Formed s n → headerLength ≤ length s

@@ -8,7 +8,7 @@ use native.Mathlib.Omega.{arith}
 use borrow.Author.Tests.{le-leb, lt-leb, leb-true, leb-false, eq-eqb, ne-eqb}
 use lib.Dec.{leb}
 use lib.ListN.{length, drop, getD, drop-of-length-le}
-use Rattle.sheet.specs.Column.{digitsAfter, decimalIn}
+use Rattle.sheet.specs.Column.{digitByte, digitsAfter, decimalIn}
 use Rattle.sheet.specs.Steps.{within}
 use Rattle.sheet.proofs.Laws.Text.{next-byte}
 
@@ -37,22 +37,13 @@ within-some most (some k) m e = go (leb k most) refl
         let z : _≡_ {A = ℕ} 0 1 = cc (within-over most k (leb-false k most l)) in
         (absurd (omega arith), absurd (omega arith))
 
--- A digit is 48..57.
-pub below-digits : (x : ℕ) → x < 48 → (leb 48 x && leb x 57) ≡ false
-below-digits x h = rw (lt-leb 48 x h)
-
-pub above-digits : (x : ℕ) → 57 < x → (leb 48 x && leb x 57) ≡ false
-above-digits x h = rw (lt-leb x 57 h) (and-false (leb 48 x))
-
-pub is-digit : (x : ℕ) → 48 ≤ x → x ≤ 57 → (leb 48 x && leb x 57) ≡ true
-is-digit x low high = rw (le-leb 48 x low, le-leb x 57 high)
-
+-- A byte that is no digit ends the number; one that is goes on with it.
 module _ (n x : ℕ) (rest : List ℕ) where
-  pub not-digit : (leb 48 x && leb x 57) ≡ false → digitsAfter n (x ∷ rest) ≡ none
+  pub not-digit : digitByte x ≡ false → digitsAfter n (x ∷ rest) ≡ none
   unfolding digitsAfter
   not-digit e = rw (e, digitsAfter)
 
-  pub one-digit : (leb 48 x && leb x 57) ≡ true → digitsAfter n (x ∷ rest) ≡ digitsAfter (10 * n + (x - 48)) rest
+  pub one-digit : digitByte x ≡ true → digitsAfter n (x ∷ rest) ≡ digitsAfter (10 * n + (x - 48)) rest
   unfolding digitsAfter
   one-digit e = rw (e, digitsAfter)
 
@@ -61,23 +52,23 @@ pub over : (most n : ℕ) (s : List ℕ) → most < n → within most (digitsAft
 unfolding digitsAfter
 over most n [] h = within-over most n h
 over most n (x ∷ rest) h =
-    go (leb 48 x && leb x 57) refl (over most (10 * n + (x - 48)) rest (omega arith))
+    go (digitByte x) refl (over most (10 * n + (x - 48)) rest (omega arith))
   where
-    go : (q : Bool) → (leb 48 x && leb x 57) ≡ q → within most (digitsAfter (10 * n + (x - 48)) rest) ≡ none
+    go : (q : Bool) → digitByte x ≡ q → within most (digitsAfter (10 * n + (x - 48)) rest) ≡ none
         → within most (digitsAfter n (x ∷ rest)) ≡ none
     go true e h = ap (within most) (one-digit n x rest e) ∙ h
     go false e h = ap (within most) (not-digit n x rest e) ∙ within-none most
 
-pub single : (n x : ℕ) → (leb 48 x && leb x 57) ≡ true → digitsAfter n (x ∷ []) ≡ some (10 * n + (x - 48))
+pub single : (n x : ℕ) → digitByte x ≡ true → digitsAfter n (x ∷ []) ≡ some (10 * n + (x - 48))
 unfolding digitsAfter
 single n x d = one-digit n x [] d
 
 -- One digit, and those that follow it: where it passes the limit, so do they; otherwise they go on from it.
 module _ (most n x : ℕ) (rest : List ℕ) where
   digit-over : none ≡ within most (digitsAfter n (x ∷ [])) → within most (digitsAfter n (x ∷ rest)) ≡ none
-  digit-over e = go (leb 48 x && leb x 57) refl (leb (10 * n + (x - 48)) most) refl
+  digit-over e = go (digitByte x) refl (leb (10 * n + (x - 48)) most) refl
     where
-      go : (q : Bool) → (leb 48 x && leb x 57) ≡ q → (p : Bool) → leb (10 * n + (x - 48)) most ≡ p
+      go : (q : Bool) → digitByte x ≡ q → (p : Bool) → leb (10 * n + (x - 48)) most ≡ p
           → within most (digitsAfter n (x ∷ rest)) ≡ none
       go true d true l =
           let z : _≡_ {A = ℕ} 0 1 = cc (ap (within most) (single n x d), within-yes most _ (leb-true _ most l)) in
@@ -86,9 +77,9 @@ module _ (most n x : ℕ) (rest : List ℕ) where
       go false d p l = ap (within most) (not-digit n x rest d) ∙ within-none most
 
   digit-goes-on : (m : ℕ) → some m ≡ within most (digitsAfter n (x ∷ [])) → (m ≤ most) × (digitsAfter n (x ∷ rest) ≡ digitsAfter m rest)
-  digit-goes-on m e = go (leb 48 x && leb x 57) refl (within-some most (digitsAfter n (x ∷ [])) m e)
+  digit-goes-on m e = go (digitByte x) refl (within-some most (digitsAfter n (x ∷ [])) m e)
     where
-      go : (q : Bool) → (leb 48 x && leb x 57) ≡ q → (digitsAfter n (x ∷ []) ≡ some m) × (m ≤ most)
+      go : (q : Bool) → digitByte x ≡ q → (digitsAfter n (x ∷ []) ≡ some m) × (m ≤ most)
           → (m ≤ most) × (digitsAfter n (x ∷ rest) ≡ digitsAfter m rest)
       go true d h =
           let same : 10 * n + (x - 48) ≡ m = cc (single n x d, h .0) in

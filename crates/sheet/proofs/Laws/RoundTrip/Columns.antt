@@ -10,15 +10,9 @@ use lib.Dec.{leb, ltb}
 use lib.ListN.{length, take, drop, getD, replicate}
 use lib.Seq.{take-at, drop-at}
 use borrow.Author.Tests.{ltb-true, ltb-false, ne-eqb}
-use Rattle.sheet.specs.Column.{blank, trimmed, digitsAfter, decimalIn, columnNumber, decimal, columnOf}
-use Rattle.sheet.proofs.Laws.Reading.Digits.{is-digit}
+use Rattle.sheet.specs.Column.{between, digitByte, blank, trimmed, digitsAfter, decimalIn, columnNumber, decimal, columnOf}
+use Rattle.sheet.proofs.Laws.Text.{in-range, trimmed-blanks}
 use Rattle.sheet.proofs.Laws.Writing.Lengths.{column-length}
-
--- Blanks before a text are left out.
-pub trimmed-blanks : (k : ℕ) (s : List ℕ) → trimmed (replicate k blank ++ s) ≡ trimmed s
-unfolding trimmed blank
-trimmed-blanks zero s = refl
-trimmed-blanks (suc k) s = trimmed-blanks k s
 
 -- A text that starts with no blank stays as it is.
 trimmed-none : (s : List ℕ) → blank < getD s 0 0 → trimmed s ≡ s
@@ -32,15 +26,20 @@ record Digits (s : List ℕ) (n : ℕ) : Type 0 where
   first : 48 ≤ getD s 0 0
   leads : 0 < n → 48 < getD s 0 0
 
+-- The byte of a digit d is one.
+is-digit : (d : ℕ) → d < 10 → digitByte (48 + d) ≡ true
+unfolding digitByte
+is-digit d h = in-range 48 57 (48 + d) (omega arith) (omega arith)
+
 -- One digit more gives ten times the number and that digit.
 digit-more : (n m d : ℕ) (s : List ℕ) → d < 10 → digitsAfter n s ≡ some m → digitsAfter n (s ++ ((48 + d) ∷ [])) ≡ some (10 * m + d)
 unfolding digitsAfter
 digit-more n m d [] h e =
     let same : n ≡ m = cc in
-    rw (is-digit (48 + d) (omega arith) (omega arith), digitsAfter) (ap some (omega arith))
-digit-more n m d (x ∷ rest) h e = go (leb 48 x && leb x 57) refl (digit-more (10 * n + (x - 48)) m d rest h)
+    rw (is-digit d h, digitsAfter) (ap some (omega arith))
+digit-more n m d (x ∷ rest) h e = go (digitByte x) refl (digit-more (10 * n + (x - 48)) m d rest h)
   where
-    go : (q : Bool) → (leb 48 x && leb x 57) ≡ q
+    go : (q : Bool) → digitByte x ≡ q
         → (digitsAfter (10 * n + (x - 48)) rest ≡ some m → digitsAfter (10 * n + (x - 48)) (rest ++ ((48 + d) ∷ [])) ≡ some (10 * m + d))
         → digitsAfter n ((x ∷ rest) ++ ((48 + d) ∷ [])) ≡ some (10 * m + d)
     go true t ih = rw (t, digitsAfter) (ih (rw (t, digitsAfter) at e))
@@ -85,7 +84,7 @@ digits-read (x ∷ (y ∷ rest)) n pos g = rw (ne-eqb x 48 (λ e. omega (arith, 
 
 -- 0 is one digit, whatever the columns.
 decimal-reads : (w n : ℕ) → 0 < w → Digits (decimal w n) n → decimalIn (decimal w n) ≡ some n
-unfolding decimal decimalIn digitsAfter
+unfolding between digitByte decimal decimalIn digitsAfter
 decimal-reads zero zero pos g = absurd (omega arith)
 decimal-reads (suc w) zero pos g = refl
 decimal-reads w (suc n) pos g = digits-read (decimal w (suc n)) (suc n) (omega arith) g

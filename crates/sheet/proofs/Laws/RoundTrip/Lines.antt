@@ -17,7 +17,7 @@ use Rattle.sheet.specs.Line.{tagColumns, codeColumns, nameColumns, redSt
 use Rattle.sheet.specs.Line.{nameGood, lineFrom, nameField, lineFormed, codeColumn, lineNumbers, lineOf, numberColumns, lineBytes, writeNumber, writeLine}
 use Rattle.sheet.proofs.Laws.RoundTrip.Columns.{column-at}
 use Rattle.sheet.proofs.Laws.Names.{name-good, filled, filled-length, filled-name, filled-good}
-use Rattle.sheet.proofs.Laws.Writing.Lengths.{column-length, numbers-length, line-bytes-length}
+use Rattle.sheet.proofs.Laws.Writing.Lengths.{column-length, numbers-length, start-length, line-bytes-length}
 
 -- Where a channel's code starts.
 codeStart : Channel → ℕ
@@ -77,24 +77,20 @@ module _ (s : Sample) (name : List ℕ) where
   blank-stands : getD (lineBytes s name) blankAt 0 ≡ blank
   blank-stands = rw line-is (getD-at numbers blank _ 0 blankAt (numbers-length s))
 
-  start-length : length (numbers ++ (blank ∷ [])) ≡ nameStart
-  unfolding nameStart
-  start-length = length-append numbers (blank ∷ []) ∙ omega (arith, numbers-length s)
-
   name-on : (t : List ℕ) → drop nameStart (lineBytes s name ++ t) ≡ filled name ++ (newline ∷ t)
-  name-on t = rw (line-parts t, ← append-assoc numbers (blank ∷ [])) (drop-at (numbers ++ (blank ∷ [])) _ nameStart start-length)
+  name-on t = rw (line-parts t, ← append-assoc numbers (blank ∷ [])) (drop-at (numbers ++ (blank ∷ [])) _ nameStart (start-length s))
 
   field-is : nameGood name ≡ true → nameField (lineBytes s name) ≡ filled name
   unfolding nameField
   field-is g =
-      rw (rw append-nil at (name-on [])) (take-at (filled name) (newline ∷ []) nameColumns (filled-length name (name-good name g)))
+      rw (rw append-nil at (name-on [])) (take-at (filled name) (newline ∷ []) nameColumns (filled-length name (name-good name g .fits)))
 
   newline-stands : nameGood name ≡ true → getD (lineBytes s name) newlineAt 0 ≡ newline
   unfolding newlineAt nameStart
   newline-stands g =
       rw (line-is, ← append-assoc numbers (blank ∷ filled name))
       (getD-at (numbers ++ (blank ∷ filled name)) newline [] 0 newlineAt
-      (length-append numbers (blank ∷ filled name) ∙ omega (arith, numbers-length s, filled-length name (name-good name g))))
+      (length-append numbers (blank ∷ filled name) ∙ omega (arith, numbers-length s, filled-length name (name-good name g .fits))))
 
   -- So it is formed as a line is.
   formed : nameGood name ≡ true → lineFormed (lineBytes s name) ≡ true

@@ -1,7 +1,7 @@
 -- A number fills its columns, and a written line has 62 bytes (document 01, "Sheets").
 use Prim.Native.Nat.{ℕ, zero, suc, _+_, _-_, _/_, _%_, _≤_}
 use mathlib.Core.Bool.{Bool, true, false}
-use mathlib.Core.List.{List, [], _∷_}
+use mathlib.Core.List.{List, [], _∷_, _++_}
 use mathlib.Core.Path.{_≡_, refl, _∙_}
 use native.Mathlib.Omega.{arith}
 use lib.Dec.{ltb}
@@ -28,6 +28,11 @@ column-length w n =
 pub numbers-length : (s : Sample) → length (numberColumns s) ≡ blankAt
 unfolding numberColumns redStart greenStart blueStart blankAt
 numbers-length s = simp (length-append, column-length)
+
+-- The name starts after them and a blank.
+pub start-length : (s : Sample) → length (numberColumns s ++ (blank ∷ [])) ≡ nameStart
+unfolding nameStart
+start-length s = length-append (numberColumns s) (blank ∷ []) ∙ omega (arith, numbers-length s)
 
 pub line-bytes-length : (s : Sample) (name : List ℕ) → length name ≤ nameColumns → length (lineBytes s name) ≡ lineLength
 unfolding lineBytes lineLength newlineAt nameStart

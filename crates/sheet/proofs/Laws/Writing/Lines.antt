@@ -24,17 +24,16 @@ use Rattle.sheet.specs.Column.{blank, newline, columnOf}
 use Rattle.sheet.specs.Line.{tagColumns, codeColumns, nameColumns, redStart, greenStart, blueStart, blankAt, nameStart, newlineAt, lineLength, nameGood, numberColumns, lineBytes, writeNumber, writeLine}
 use Rattle.sheet.specs.Steps.{putAt}
 use Rattle.sheet.proofs.writer.Written.{the-type}
-use Rattle.sheet.proofs.Laws.Parts.{put-next, set-next, part-put}
-use Rattle.sheet.proofs.Laws.Writing.Lengths.{column-length, numbers-length}
+use Rattle.sheet.proofs.Laws.Parts.{part-length, put-next, set-next, part-put}
+use Rattle.sheet.proofs.Laws.Names.{filled, filled-length}
+use Rattle.sheet.proofs.Laws.Writing.Lengths.{column-length, numbers-length, start-length}
 
 -- A column that was lent comes back with its number.
 pub column-put : (at w n : ℕ) (s t : List ℕ) → at + w ≤ length s → t ≡ columnOf (length (take (at + w - at) (drop at s))) n
     → putMid at (at + w - at) s t ≡ putAt at (columnOf w n) s
 column-put at w n s t fits e =
-    let size : length (take (at + w - at) (drop at s)) ≡ at + w - at =
-    length-take-le (at + w - at) (drop at s) (omega (arith, length-drop at s)) in
     let width : at + w - at ≡ w = omega arith in
-    let is : t ≡ columnOf w n = e ∙ ap (λ (k : ℕ). columnOf k n) (size ∙ width) in
+    let is : t ≡ columnOf w n = e ∙ rw (width, part-length s at w fits) in
     rw is (part-put at (at + w - at) s (columnOf w n) (column-length w n ∙ sym width))
 
 -- A number written where the text before it ends.
@@ -67,10 +66,6 @@ module _ (s : Sample) (l₀ l₁ : List ℕ) (room : lineLength ≤ length l₀)
   abbrev before : List ℕ
   before = numberColumns s ++ (blank ∷ [])
 
-  before-length : length before ≡ nameStart
-  unfolding nameStart
-  before-length = simp length-append (omega (arith, numbers-length s))
-
   blank-set : set l₁ blankAt blank ≡ before ++ drop nameStart l₀
   unfolding nameStart newlineAt lineLength
   blank-set =
@@ -80,29 +75,30 @@ module _ (s : Sample) (l₀ l₁ : List ℕ) (room : lineLength ≤ length l₀)
   unfolding newlineAt lineLength
   name-room =
       let rest : drop nameStart (set l₁ blankAt blank) ≡ drop nameStart l₀ =
-      ap (drop nameStart) blank-set ∙ drop-at before (drop nameStart l₀) nameStart before-length in
-      rw rest (length-take-le nameColumns (drop nameStart l₀) (omega (arith, length-drop nameStart l₀)))
+      ap (drop nameStart) blank-set ∙ drop-at before (drop nameStart l₀) nameStart (start-length s) in
+      rw rest (part-length l₀ nameStart nameColumns (omega arith))
 
   module _ (name t : List ℕ) (fits : length name ≤ nameColumns)
       (named : t ≡ name ++ replicate (length (take nameColumns (drop nameStart (set l₁ blankAt blank))) - length name) blank) where
-    name-is : t ≡ name ++ replicate (nameColumns - length name) blank
+    name-is : t ≡ filled name
+    unfolding filled
     name-is = named ∙ rw name-room
 
     name-size : length t ≡ nameColumns
-    name-size = ap length name-is ∙ simp length-append (omega (arith, length-replicate (nameColumns - length name) blank))
+    name-size = ap length name-is ∙ filled-length name fits
 
     name-put : putMid nameStart nameColumns (set l₁ blankAt blank) t ≡ (before ++ t) ++ drop newlineAt l₀
     unfolding newlineAt
     name-put =
         part-put nameStart nameColumns (set l₁ blankAt blank) t name-size ∙ ap (putAt nameStart t) blank-set
-        ∙ put-next before l₀ nameStart before-length t
+        ∙ put-next before l₀ nameStart (start-length s) t
         ∙ rw name-size
 
     pub line-written : set (putMid nameStart nameColumns (set l₁ blankAt blank) t) newlineAt newline ≡ lineBytes s name ++ drop lineLength l₀
-    unfolding lineBytes newlineAt lineLength
+    unfolding lineBytes filled newlineAt lineLength
     line-written =
         ap (λ (l : List ℕ). set l newlineAt newline) name-put
-        ∙ set-next (before ++ t) l₀ newlineAt (length-append before t ∙ omega (arith, before-length, name-size)) newline (omega arith)
+        ∙ set-next (before ++ t) l₀ newlineAt (length-append before t ∙ omega (arith, (start-length s), name-size)) newline (omega arith)
         ∙ rw name-is (simp append-assoc)
 
 -- The writer's questions, one after another.

@@ -4,8 +4,8 @@ use Prim.Native.Nat.{_+_, _-_, _≤_}
 use mathlib.Core.Path.{_≡_}
 use native.Mathlib.Omega.{arith}
 use lib.ListN.{length, drop}
-use Rattle.sheet.specs.Line.{leading}
-use Rattle.sheet.proofs.Laws.Text.{below-names, above-names, is-named, leading-more, leading-stops, leading-end}
+use Rattle.sheet.specs.Line.{nameByte, leading}
+use Rattle.sheet.proofs.Laws.Text.{below-range, above-range, in-range, leading-more, leading-stops, leading-end}
 use Rattle.sheet.proofs.text.name_bytes.Statement.{statement}
 use Rattle.sheet.proofs.text.name_bytes.Tie as tie
 
@@ -22,19 +22,21 @@ shared-slice-read-if1 : tie.Need-shared-slice-read-if1 Inv-loop μ-loop
 shared-slice-read-if1 c = search needs
 
 returns : tie.Need-returns Inv-loop μ-loop
+unfolding nameByte
 returns c =
     let l = c .before .before .before .loop in
     let s = c .before .before .before .before .args .text .now in
-    omega (arith, leading-stops s (l .i) (omega arith) (below-names _ (c .if1 .taken)))
+    omega (arith, leading-stops s (l .i) (omega arith) (below-range 33 126 _ (c .if1 .taken)))
 
 shared-slice-read-if2 : tie.Need-shared-slice-read-if2 Inv-loop μ-loop
 shared-slice-read-if2 c = search needs
 
 returns-2 : tie.Need-returns-2 Inv-loop μ-loop
+unfolding nameByte
 returns-2 c =
     let l = c .before .before .before .before .before .loop in
     let s = c .before .before .before .before .before .before .args .text .now in
-    omega (arith, leading-stops s (l .i) (omega arith) (above-names _ (c .if2 .taken)))
+    omega (arith, leading-stops s (l .i) (omega arith) (above-range 33 126 _ (c .if2 .taken)))
 
 add-i : tie.Need-add-i Inv-loop μ-loop
 add-i c = search needs
@@ -43,11 +45,12 @@ loop-less : tie.Need-loop-less Inv-loop μ-loop
 loop-less c = search needs
 
 loop-again : tie.Need-loop-again Inv-loop μ-loop
+unfolding nameByte
 loop-again c =
     let l = c .before .before .before .before .before .loop in
     let s = c .before .before .before .before .before .before .args .text .now in (
       omega arith,
-      omega (arith, leading-more s (l .i) (omega arith) (is-named _ (c .before .before .if1 .left) (c .if2 .left))),
+      omega (arith, leading-more s (l .i) (omega arith) (in-range 33 126 _ (c .before .before .if1 .left) (c .if2 .left))),
     )
 
 returns-3 : tie.Need-returns-3 Inv-loop μ-loop
