@@ -23,6 +23,7 @@ use Rattle.sheet.specs.Sheet.{sameBytes}
 use Rattle.sheet.proofs.Laws.Names.{name-good}
 use Rattle.sheet.proofs.Laws.Numbers.{line-length-is, name-start-is}
 use Rattle.sheet.proofs.Laws.Parts.{part-tail, put-tail}
+use Rattle.sheet.proofs.Laws.Text.{same-self}
 use Rattle.sheet.proofs.Laws.RoundTrip.Lines.{accepted, written-reads, written-name}
 use Rattle.sheet_trip.specs.Same.{sameSample}
 
@@ -50,12 +51,6 @@ unfolding sameSample
 sample-same s =
     and-eq-true-iff _ _ .1
     (eq-eqb (s .tag) (s .tag) refl, each-every (λ h. eqb (codeIn h (s .colour)) (codeIn h (s .colour))) .1 (λ h. eq-eqb (codeIn h (s .colour)) _ refl))
-
--- So is a text.
-text-same : (s : List ℕ) → sameBytes s s ≡ true
-unfolding sameBytes
-text-same [] = refl
-text-same (x ∷ rest) = and-eq-true-iff _ _ .1 (eq-eqb x x refl, text-same rest)
 
 -- Two tests that do not both say yes.
 both : (p q : Bool) → (p ≡ true → q ≡ true → ⊥) → false ≡ (p && q)
@@ -134,7 +129,7 @@ module _ (s : Sample) (name left : List ℕ) (stands : Stands s name left) where
           sample = rw line-is (sample-same s);
           within = omega (arith, length-is, name-good name (stands .named) .fits);
           bytes =
-              ap (λ (t : List ℕ). sameBytes t name) is ∙ text-same name ∙ sym (and-eq-true-iff _ _ .1 (stands .codes, stands .named));
+              ap (λ (t : List ℕ). sameBytes t name) is ∙ same-self name ∙ sym (and-eq-true-iff _ _ .1 (stands .codes, stands .named));
         }
 
 -- A line written over the bytes of a sheet from byte `at` on, which were lent and come back.

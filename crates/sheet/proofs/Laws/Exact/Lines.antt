@@ -1,24 +1,24 @@
 -- What reads as good is the very text that is written from what it says (document 01, "Sheets").
 use Prim.Native.Nat.{ℕ, suc, _+_, _-_, _*_, _/_, _%_, _^_, _≤_, _<_}
-use mathlib.Core.Bool.{Bool, true, false, _&&_, and-eq-true-iff}
+use mathlib.Core.Bool.{Bool, true, false, and-eq-true-iff}
 use mathlib.Core.List.{List, [], _∷_, _++_, append-nil, append-assoc}
 use mathlib.Core.Option.{some, Option·none-ne-some, Option·some-injective}
 use mathlib.Core.Path.{_≡_, refl, sym, ap, _∙_}
 use native.Mathlib.Nat.{pow-suc, pow-le-pow-right}
 use native.Mathlib.Omega.{arith}
-use borrow.Author.Tests.{leb-true, eqb-true, eqb-false}
-use lib.Dec.{leb, eqb}
-use lib.ListN.{length, take, drop, getD, replicate, length-drop, take-append-drop, drop-of-length-le}
-use lib.Seq.{take-append-seam, length-take-le, drop-drop}
+use borrow.Author.Tests.{eqb-true, eqb-false}
+use lib.Dec.{eqb}
+use lib.ListN.{length, take, drop, getD, replicate, length-drop, drop-of-length-le}
+use lib.Seq.{take-append-seam}
 use Rattle.colour.specs.Colour.{Red, Green, Blue, codeIn}
 use Rattle.sheet.specs.declared.line.Line.{Line}
 use Rattle.sheet.specs.Computes.{sheetNumbers}
 use Rattle.sheet.specs.Column.{digitByte, blank, newline, trimmed, digitsAfter, decimalIn, columnNumber, columnOf}
 use Rattle.sheet.specs.Line.{tagColumns, codeColumns, nameColumns, redStart, greenStart, blueStart, blankAt, nameStart, newlineAt, lineLength}
-use Rattle.sheet.specs.Line.{nameByte, leading, nameGood, nameFieldGood, nameField, lineFormed, codeColumn, lineNumbers, lineOf, numberColumns, lineBytes}
+use Rattle.sheet.specs.Line.{leading, nameGood, nameFieldGood, nameField, lineFormed, codeColumn, lineNumbers, lineOf, numberColumns, lineBytes}
 use Rattle.sheet.proofs.Laws.Writing.Columns.{column-last, column-more}
 use Rattle.sheet.proofs.Laws.Reading.Digits.{not-digit, one-digit}
-use Rattle.sheet.proofs.Laws.Reading.Lines.{Numbers, codes, says}
+use Rattle.sheet.proofs.Laws.Reading.Lines.{Numbers, codes, says, Formed, formed}
 use Rattle.sheet.proofs.Laws.Names.{filled}
 use Rattle.sheet.proofs.Laws.Parts.{part-first, part-length}
 use Rattle.sheet.proofs.Laws.Text.{range-ends, next-byte, trimmed-most, blanks-before, leading-first}
@@ -142,23 +142,6 @@ field-exact s g l =
     let h = and-eq-true-iff (nameGood (leading s)) (eqb (length (trimmed rest)) 0) .0 g in
     let size : length rest ≡ nameColumns - length (leading s) = length-drop (length (leading s)) s ∙ omega arith in
     leading-first s ∙ ap (λ (t : List ℕ). leading s ++ t) (all-blank rest (eqb-true _ _ (h .1)) ∙ ap (λ (n : ℕ). replicate n blank) size)
-
--- What a good line has besides its numbers.
-record Formed (s : List ℕ) : Type 0 where
-  long : length s ≡ lineLength
-  parted : getD s blankAt 0 ≡ blank
-  named : nameFieldGood (nameField s) ≡ true
-  ended : getD s newlineAt 0 ≡ newline
-
-formed : (s : List ℕ) → lineFormed s ≡ true → Formed s
-unfolding lineFormed
-formed s e =
-    let long : Bool = eqb (length s) lineLength in
-    let parted : Bool = eqb (getD s blankAt 0) blank in
-    let h = and-eq-true-iff (long && parted && nameFieldGood (nameField s)) (eqb (getD s newlineAt 0) newline) .0 e in
-    let k = and-eq-true-iff (long && parted) (nameFieldGood (nameField s)) .0 (h .0) in
-    let m = and-eq-true-iff long parted .0 (k .0) in
-    record { long = eqb-true _ _ (m .0); parted = eqb-true _ _ (m .1); named = k .1; ended = eqb-true _ _ (h .1) }
 
 -- A good line is so formed, and has the numbers that it says.
 record Good (s : List ℕ) (l : Line) : Type 0 where

@@ -1,16 +1,14 @@
 -- A sheet that reads as good is the very sheet that is written from what it says (document 01, "Sheets").
 use Prim.Native.Nat.{ℕ, zero, suc, _+_, _^_, _≤_, _<_}
-use mathlib.Core.Bool.{true, and-eq-true-iff}
+use mathlib.Core.Bool.{true}
 use mathlib.Core.List.{List, [], _∷_, _++_, append-assoc}
 use mathlib.Core.Option.{Option, none, some, Option·none-ne-some, Option·some-injective}
 use mathlib.Core.Path.{_≡_, refl, sym, ap, _∙_}
 use native.Mathlib.Omega.{arith}
-use borrow.Author.Tests.{eqb-true}
-use lib.Dec.{eqb}
 use lib.ListN.{length, take, drop, take-append-drop, drop-of-length-le}
 use Rattle.sheet.specs.declared.line.Line.{Line}
 use Rattle.sheet.specs.Line.{nameStart, lineLength, lineOf}
-use Rattle.sheet.specs.Sheet.{title, sameBytes, countColumns, headerLength, lineStart, lineCount, linePart, linesFrom, linesBy, linesOf, allGood}
+use Rattle.sheet.specs.Sheet.{title, countColumns, headerLength, lineStart, lineCount, linePart, linesFrom, linesBy, linesOf, allGood}
 use Rattle.sheet.specs.Entries.{Entry, headerBytes, linesBytes, sheetBytes, entryGood, entriesGood, lineSaid, linesSaid}
 use Rattle.sheet.proofs.Laws.Exact.Lines.{number-exact, column-fits, line-exact, line-name-good, line-name-size}
 use Rattle.sheet.proofs.Laws.Reading.Header.{Formed, formed, line-ends}

@@ -5,7 +5,7 @@ use mathlib.Core.List.{List}
 use mathlib.Core.Option.{Option, none, some, Option·none-ne-some, Option·some-injective}
 use mathlib.Core.Path.{_≡_, refl, sym, ap, _∙_}
 use native.Mathlib.Omega.{arith}
-use borrow.Author.Tests.{le-leb, eq-eqb, ne-eqb, leb-false, ltb-true, lt-ltb}
+use borrow.Author.Tests.{le-leb, eq-eqb, ne-eqb, leb-false, ltb-true, lt-ltb, eqb-true}
 use lib.Dec.{leb, eqb}
 use lib.ListN.{length, drop, getD}
 use Rattle.colour.specs.declared.Sample.{Sample}
@@ -144,38 +144,49 @@ module _ (s : List ℕ) (n : ℕ) (named : n ≡ length (leading s)) where
       go true e = named ∙ good s (tests rest r all-blank fits ∙ e)
       go false e = omega (arith, bad s (tests rest r all-blank fits ∙ e), leb-false 1 n e)
 
+-- What a good line has besides its numbers.
+pub record Formed (s : List ℕ) : Type 0 where
+  pub long : length s ≡ lineLength
+  pub parted : getD s blankAt 0 ≡ blank
+  pub named : nameFieldGood (nameField s) ≡ true
+  pub ended : getD s newlineAt 0 ≡ newline
+
+pub formed : (s : List ℕ) → lineFormed s ≡ true → Formed s
+unfolding lineFormed
+formed s e =
+    let long : Bool = eqb (length s) lineLength in
+    let parted : Bool = eqb (getD s blankAt 0) blank in
+    let h = and-eq-true-iff (long && parted && nameFieldGood (nameField s)) (eqb (getD s newlineAt 0) newline) .0 e in
+    let k = and-eq-true-iff (long && parted) (nameFieldGood (nameField s)) .0 (h .0) in
+    let m = and-eq-true-iff long parted .0 (k .0) in
+    record { long = eqb-true _ _ (m .0); parted = eqb-true _ _ (m .1); named = k .1; ended = eqb-true _ _ (h .1) }
+
+pub forms : (s : List ℕ) → Formed s → lineFormed s ≡ true
+unfolding lineFormed
+forms s f =
+    rw (eq-eqb (length s) lineLength (f .long), eq-eqb (getD s blankAt 0) blank (f .parted), f .named, eq-eqb (getD s newlineAt 0) newline (f .ended))
+
 -- A line that fails one of its tests is not good; one that passes them says its numbers, beside its name.
 module _ (s : List ℕ) where
-  unformed : lineFormed s ≡ false → none ≡ lineOf s
+  not-formed : (Formed s → ⊥) → none ≡ lineOf s
   unfolding lineOf
-  unformed e = rw (e, lineOf)
-
-  bad-name : nameFieldGood (nameField s) ≡ false → lineFormed s ≡ false
-  unfolding lineFormed
-  bad-name e = rw (e, and-false (eqb (length s) lineLength && eqb (getD s blankAt 0) blank))
-
-  formed : nameFieldGood (nameField s) ≡ true → length s ≡ lineLength → getD s blankAt 0 ≡ blank → getD s newlineAt 0 ≡ newline → lineFormed s ≡ true
-  unfolding lineFormed
-  formed g l b k = rw (eq-eqb (length s) lineLength l, eq-eqb (getD s blankAt 0) blank b, g, eq-eqb (getD s newlineAt 0) newline k)
+  not-formed never = go (lineFormed s) refl
+    where
+      go : (q : Bool) → lineFormed s ≡ q → none ≡ lineOf s
+      go true e = absurd (never (formed s e))
+      go false e = rw (e, lineOf)
 
   pub other-length : (length s ≡ lineLength → ⊥) → none ≡ lineOf s
-  unfolding lineFormed
-  other-length h = unformed (rw (ne-eqb (length s) lineLength h))
+  other-length h = not-formed (λ f. h (f .long))
 
   pub no-blank : (getD s blankAt 0 ≡ blank → ⊥) → none ≡ lineOf s
-  unfolding lineFormed
-  no-blank h = unformed (rw (ne-eqb (getD s blankAt 0) blank h, and-false (eqb (length s) lineLength)))
+  no-blank h = not-formed (λ f. h (f .parted))
 
   pub no-newline : (getD s newlineAt 0 ≡ newline → ⊥) → none ≡ lineOf s
-  unfolding lineFormed
-  no-newline h = unformed (rw (ne-eqb (getD s newlineAt 0) newline h) (and-false (eqb (length s) lineLength && eqb (getD s blankAt 0) blank && nameFieldGood (nameField s))))
+  no-newline h = not-formed (λ f. h (f .ended))
 
   pub no-name : 0 ≡ nameLengthIn (nameField s) → none ≡ lineOf s
-  no-name h = go (nameFieldGood (nameField s)) refl
-    where
-      go : (q : Bool) → nameFieldGood (nameField s) ≡ q → none ≡ lineOf s
-      go true e = absurd (omega (arith, good (nameField s) e, some-bytes (nameField s) e))
-      go false e = unformed (bad-name e)
+  no-name h = not-formed (λ f. omega (arith, good (nameField s) (f .named), some-bytes (nameField s) (f .named)))
 
   pub has-name : (n : ℕ) → n ≡ nameLengthIn (nameField s) → (n ≡ 0 → ⊥) → length s ≡ lineLength → getD s blankAt 0 ≡ blank → getD s newlineAt 0 ≡ newline
       → lineNumbers s n ≡ lineOf s
@@ -183,5 +194,7 @@ module _ (s : List ℕ) where
   has-name n e some-name l b k = go (nameFieldGood (nameField s)) refl
     where
       go : (q : Bool) → nameFieldGood (nameField s) ≡ q → lineNumbers s n ≡ lineOf s
-      go true g = rw (formed g l b k, lineOf) (ap (lineNumbers s) (e ∙ sym (good (nameField s) g)))
+      go true g =
+          rw (forms s (record { long = l; parted = b; named = g; ended = k }), lineOf)
+          (ap (lineNumbers s) (e ∙ sym (good (nameField s) g)))
       go false g = absurd (some-name (e ∙ sym (bad (nameField s) g)))

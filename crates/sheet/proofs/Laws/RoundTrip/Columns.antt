@@ -1,13 +1,13 @@
 -- A number written in columns reads back (document 01, "Sheets").
 use Prim.Native.Nat.{ℕ, zero, suc, _+_, _-_, _*_, _/_, _%_, _^_, _≤_, _<_}
-use mathlib.Core.Bool.{Bool, true, false, _&&_}
+use mathlib.Core.Bool.{Bool, true, false}
 use mathlib.Core.List.{List, [], _∷_, _++_}
 use mathlib.Core.Option.{none, some}
 use mathlib.Core.Path.{_≡_, refl, _∙_, ap}
 use native.Mathlib.Nat.{pow-suc}
 use native.Mathlib.Omega.{arith}
-use lib.Dec.{leb, ltb}
-use lib.ListN.{length, take, drop, getD, replicate}
+use lib.Dec.{ltb}
+use lib.ListN.{length, take, drop, getD}
 use lib.Seq.{take-at, drop-at}
 use borrow.Author.Tests.{ltb-true, ltb-false, ne-eqb}
 use Rattle.sheet.specs.Column.{between, digitByte, blank, trimmed, digitsAfter, decimalIn, columnNumber, decimal, columnOf}

@@ -14,8 +14,9 @@ use Rattle.colour.proofs.Laws.Channels.{fit-codes}
 use Rattle.colour.proofs.Laws.Questions.{asked}
 use Rattle.sheet.specs.Column.{blank, newline, columnNumber, columnOf}
 use Rattle.sheet.specs.Line.{tagColumns, codeColumns, nameColumns, redStart, greenStart, blueStart, blankAt, nameStart, newlineAt, lineLength}
-use Rattle.sheet.specs.Line.{nameGood, lineFrom, nameField, lineFormed, codeColumn, lineNumbers, lineOf, numberColumns, lineBytes, writeNumber, writeLine}
+use Rattle.sheet.specs.Line.{nameGood, lineFrom, nameField, codeColumn, lineNumbers, lineOf, numberColumns, lineBytes, writeNumber, writeLine}
 use Rattle.sheet.proofs.Laws.RoundTrip.Columns.{column-at}
+use Rattle.sheet.proofs.Laws.Reading.Lines.{Formed, forms}
 use Rattle.sheet.proofs.Laws.Names.{name-good, filled, filled-length, filled-name, filled-good}
 use Rattle.sheet.proofs.Laws.Writing.Lengths.{column-length, numbers-length, start-length, line-bytes-length}
 
@@ -93,23 +94,20 @@ module _ (s : Sample) (name : List ℕ) where
       (length-append numbers (blank ∷ filled name) ∙ omega (arith, numbers-length s, filled-length name (name-good name g .fits))))
 
   -- So it is formed as a line is.
-  formed : nameGood name ≡ true → lineFormed (lineBytes s name) ≡ true
-  unfolding lineFormed
-  formed g =
-      rw (
-        eq-eqb _ _ (line-bytes-length s name (name-good name g .fits)),
-        eq-eqb _ _ blank-stands,
-        field-is g,
-        filled-good name g,
-        eq-eqb _ _ (newline-stands g),
-      )
+  formed : nameGood name ≡ true → Formed (lineBytes s name)
+  formed g = record {
+    long = line-bytes-length s name (name-good name g .fits);
+    parted = blank-stands;
+    named = rw (field-is g) (filled-good name g);
+    ended = newline-stands g;
+  }
 
   -- A line written from a sample and a good name says that sample and the name's length.
   pub line-reads : isTag (s .tag) ≡ true → codesFit (s .colour) ≡ true → nameGood name ≡ true
       → lineOf (lineBytes s name) ≡ some (record { sample = s; «name_length» = length name })
   unfolding lineOf
   line-reads t f g =
-      rw (formed g, lineOf) (rw (field-is g, filled-name name (name-good name g)) (numbers-read (length name) t f))
+      rw (forms (lineBytes s name) (formed g), lineOf) (rw (field-is g, filled-name name (name-good name g)) (numbers-read (length name) t f))
 
   -- The name's bytes stand where the name starts, whatever follows the line.
   pub name-stands : (t : List ℕ) → take (length name) (drop nameStart (lineBytes s name ++ t)) ≡ name

@@ -10,8 +10,8 @@ use types.Run.{OneOf}
 use denote.Enum.Declared.{tagOf}
 use lib.Dec.{leb}
 use borrow.Rule.Slice.PartMut.{putMid}
-use lib.ListN.{length, take, drop, set, replicate, length-append, length-drop, length-replicate}
-use lib.Seq.{length-take-le, drop-at}
+use lib.ListN.{length, take, drop, set, replicate, length-append}
+use lib.Seq.{drop-at}
 use Rattle.colour.specs.declared.Sample.{Sample}
 use Rattle.colour.specs.Colour.{codesFit}
 use Rattle.colour.specs.Question.{asks, firstNo}
