@@ -84,6 +84,14 @@ pub mod raw {
     }
 }
 
+/// What a call gave, where its number says that it accepted.
+fn unless_refused<T>(number: u32, given: T) -> Result<T, u32> {
+    match number {
+        0 => Ok(given),
+        _ => Err(number),
+    }
+}
+
 /// The codes of a panel colour: red, green, blue.
 ///
 /// The code of a channel `v` is the greatest whole `k` with `k <= 65,536 * v`. Minus zero counts as
@@ -100,10 +108,7 @@ pub fn codes(panel: [f32; 3]) -> Result<[u32; 3], u32> {
     let [mut red, mut green, mut blue] = [0; 3];
     // SAFETY: the pointers are to three locals.
     let number = unsafe { raw::hbx_codes(panel[0], panel[1], panel[2], &mut red, &mut green, &mut blue) };
-    match number {
-        0 => Ok([red, green, blue]),
-        _ => Err(number),
-    }
+    unless_refused(number, [red, green, blue])
 }
 
 /// A colour as panel floats: each code divided by 65,536, which is exact. [`codes`] gives the same
@@ -120,10 +125,7 @@ pub fn floats(codes: [u32; 3]) -> Result<[f32; 3], u32> {
     let [mut red, mut green, mut blue] = [0.0; 3];
     // SAFETY: the pointers are to three locals.
     let number = unsafe { raw::hbx_floats(codes[0], codes[1], codes[2], &mut red, &mut green, &mut blue) };
-    match number {
-        0 => Ok([red, green, blue]),
-        _ => Err(number),
-    }
+    unless_refused(number, [red, green, blue])
 }
 
 /// The bytes of a sheet's header.
@@ -156,10 +158,7 @@ pub fn write_line(tag: u32, codes: [u32; 3], name: &[u8], line: &mut [u8]) -> Re
     // SAFETY: each pointer and length is a slice's; the one that is written is borrowed alone.
     let number =
         unsafe { raw::hbx_line(tag, red, green, blue, name.as_ptr(), name.len(), line.as_mut_ptr(), line.len()) };
-    match number {
-        0 => Ok(()),
-        _ => Err(number),
-    }
+    unless_refused(number, ())
 }
 
 /// The reel name in the first line of a sheet with this tag: a part of the sheet itself. Empty where

@@ -1,7 +1,7 @@
 -- A line written from a sample and a name reads back as both, exactly where the sample has codes and the name is good.
 use Prim.Native.Nat.{ℕ, _+_, _-_, _^_, _≤_, _<_}
 use mathlib.Core.Bool.{Bool, true, false, _&&_, and-false, and-eq-true-iff}
-use mathlib.Core.List.{List, [], _∷_, _++_}
+use mathlib.Core.List.{List, _++_}
 use mathlib.Core.Option.{none, some}
 use mathlib.Core.Path.{_≡_, refl, sym, ap, _∙_}
 use native.Mathlib.Omega.{arith}
@@ -18,10 +18,9 @@ use Rattle.sheet.specs.declared.line.Line.{Line}
 use Rattle.sheet.specs.declared.line.Reading.the-variants as R
 use Rattle.sheet.specs.declared.writer.Written.{Written}
 use Rattle.sheet.specs.Answers.{lineAnswer, written, writtenNumber}
-use Rattle.sheet.specs.Line.{LineAnswer, WriteAnswer, nameColumns, nameStart, lineLength, nameGood, lineOf, readLine, writeNumber, writeLine}
+use Rattle.sheet.specs.Line.{LineAnswer, WriteAnswer, nameStart, newlineAt, lineLength, nameGood, lineOf, readLine, writeNumber, writeLine}
 use Rattle.sheet.specs.Sheet.{sameBytes}
 use Rattle.sheet.proofs.Laws.Names.{name-good}
-use Rattle.sheet.proofs.Laws.Numbers.{line-length-is, name-start-is}
 use Rattle.sheet.proofs.Laws.Parts.{part-tail, put-tail}
 use Rattle.sheet.proofs.Laws.Text.{same-self}
 use Rattle.sheet.proofs.Laws.RoundTrip.Lines.{accepted, written-reads, written-name}
@@ -67,7 +66,7 @@ pub record Stands (s : Sample) (name left : List ℕ) : Type 0 where
   pub bytes : take (length name) (drop nameStart left) ≡ name
 
 -- The writer's answer, over as many bytes as a line has.
-module _ (s : Sample) (name lent left : List ℕ) (w : Written) (room : length lent ≡ 62) (said : written w left ≡ writeLine s name lent) where
+module _ (s : Sample) (name lent left : List ℕ) (w : Written) (room : length lent ≡ lineLength) (said : written w left ≡ writeLine s name lent) where
   number-is : writtenNumber w ≡ writeLine s name lent .number
   unfolding written
   number-is = ap (λ (a : WriteAnswer). a .number) said
@@ -81,10 +80,10 @@ module _ (s : Sample) (name lent left : List ℕ) (w : Written) (room : length l
   unfolding writeLine writeNumber firstNo
   none-written refused =
       both (codesFit (s .colour)) (nameGood name)
-      (λ f g. refused (number-is ∙ rw (f, g, le-leb lineLength (length lent) (omega (arith, line-length-is)))))
+      (λ f g. refused (number-is ∙ rw (f, g, le-leb lineLength (length lent) (omega arith))))
 
   -- Where it does not, the line stands.
-  pub line-written : writtenNumber w ≡ 0 → length left ≡ 62 → s .tag < 2 ^ 32 → Stands s name left
+  pub line-written : writtenNumber w ≡ 0 → length left ≡ lineLength → s .tag < 2 ^ 32 → Stands s name left
   unfolding isTag
   line-written accepts size tag =
       let z : writeLine s name lent .number ≡ 0 = sym number-is ∙ accepts in
@@ -92,7 +91,7 @@ module _ (s : Sample) (name lent left : List ℕ) (w : Written) (room : length l
         codes = accepted s name lent z .0;
         named = accepted s name lent z .1;
         line =
-            ap lineOf (sym (take-all lineLength left (omega (arith, line-length-is))) ∙ ap (take lineLength) left-is)
+            ap lineOf (sym (take-all lineLength left (omega arith)) ∙ ap (take lineLength) left-is)
             ∙ written-reads s name lent (lt-ltb (s .tag) _ tag) z;
         bytes = ap (λ (l : List ℕ). take (length name) (drop nameStart l)) left-is ∙ written-name s name lent z;
       }
@@ -100,8 +99,8 @@ module _ (s : Sample) (name lent left : List ℕ) (w : Written) (room : length l
 -- What is read from it comes back: the sample is the same, and the name is within the line and is the same.
 pub record Back (s : Sample) (name left : List ℕ) (l : Line) : Type 0 where
   pub sample : sameSample (l .sample) s ≡ true
-  pub within : 29 + l .«name_length» ≤ 62
-  pub bytes : sameBytes (take (29 + l .«name_length» - 29) (drop 29 left)) name ≡ (codesFit (s .colour) && nameGood name)
+  pub within : nameStart + l .«name_length» ≤ lineLength
+  pub bytes : sameBytes (take (nameStart + l .«name_length» - nameStart) (drop nameStart left)) name ≡ (codesFit (s .colour) && nameGood name)
 
 -- A line that stands reads as good, and what is read comes back.
 module _ (s : Sample) (name left : List ℕ) (stands : Stands s name left) where
@@ -121,10 +120,10 @@ module _ (s : Sample) (name left : List ℕ) (stands : Stands s name left) where
     length-is = ap (λ (l : Line). l .«name_length») line-is
 
     pub reads-back : Back s name left l
-    unfolding nameColumns
+    unfolding newlineAt lineLength
     reads-back =
-        let size : 29 + l .«name_length» - 29 ≡ length name = omega (arith, length-is) in
-        let is : take (29 + l .«name_length» - 29) (drop 29 left) ≡ name = rw (size, ← name-start-is) (stands .bytes) in
+        let size : nameStart + l .«name_length» - nameStart ≡ length name = omega (arith, length-is) in
+        let is : take (nameStart + l .«name_length» - nameStart) (drop nameStart left) ≡ name = rw size (stands .bytes) in
         record {
           sample = rw line-is (sample-same s);
           within = omega (arith, length-is, name-good name (stands .named) .fits);

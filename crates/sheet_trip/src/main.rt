@@ -2,6 +2,7 @@
 use colour::Colour;
 use colour::Sample;
 use libc::STDOUT_FILENO;
+use sheet::line::LINE_LENGTH;
 use sheet::line::NAME_START;
 use sheet::line::Reading;
 use sheet::line::read_line;
@@ -39,7 +40,7 @@ fn same_sample(a: Sample, b: Sample) -> bool
 fn comes_back(sample: Sample, name: &[u8]) -> bool
     ensures { λ r. ⌜ r ≡ (codesFit (sample .colour) && nameGood (now (name .entry))) ⌝ }
 {
-    let mut line = [0u8; 62];
+    let mut line = [0u8; LINE_LENGTH];
     let answer = write_line(sample, name, &mut line);
     let Written::Line = answer else {
         return false;

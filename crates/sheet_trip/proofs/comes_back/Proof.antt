@@ -5,6 +5,7 @@ use mathlib.Core.Path.{refl, sym, ap, _∙_}
 use native.Mathlib.Omega.{arith}
 use borrow.Author.Tests.{not-true}
 use Rattle.sheet.specs.Answers.{lineAnswer, writtenNumber}
+use Rattle.sheet.specs.Computes.{sheetNumbers}
 use Rattle.sheet.proofs.Laws.Writing.Lines.{refused}
 use Rattle.sheet_trip.proofs.Trip.{Stands, Back, none-written, line-written, never-bad, reads-back}
 use Rattle.sheet_trip.proofs.comes_back.Statement.{statement}
@@ -20,6 +21,7 @@ enum-told : tie.Need-enum-told
 enum-told c = search needs
 
 returns : tie.Need-returns
+unfolding sheetNumbers
 returns c =
     let d = c .before .before in
     none-written _ _ _ _ _ refl (d .write-line .ensures) (refused _ (c .match .keys2))
@@ -28,7 +30,7 @@ returns c =
 stands : (c : tie.After-enum-told) → let d = c .before .before .before in
     let a = d .before .before .before .args in
     Stands (a .sample) (a .name .now) (d .write-line .last .1 .1 .0)
-unfolding writtenNumber
+unfolding writtenNumber sheetNumbers
 stands c =
     let d = c .before .before .before in
     line-written _ _ _ _ _ refl (d .write-line .ensures) (ap writtenNumber (c .enum-told .given .1)) (d .write-line .kept .1 .1 .0)
@@ -70,6 +72,7 @@ returns-3 c =
     absurd (true≢false (sym (d .same-sample .ensures ∙ back (d .before .before) .sample) ∙ not-true _ (c .if1 .taken)))
 
 add-end : tie.Need-add-end
+unfolding sheetNumbers
 add-end c = omega (arith, back (c .before .before .before .before) .within)
 
 sub-same : tie.Need-sub-same
@@ -79,6 +82,7 @@ part-same-start : tie.Need-part-same-start
 part-same-start c = search needs
 
 part-same-end : tie.Need-part-same-end
+unfolding sheetNumbers
 part-same-end c =
     let d = c .before .before .before .before .before in
     omega (arith, back d .within, d .before .before .before .before .before .before .before .write-line .kept .1 .1 .0)
@@ -87,6 +91,7 @@ same-requires : tie.Need-same-requires
 same-requires c κs = search needs
 
 returns-4 : tie.Need-returns-4
+unfolding sheetNumbers
 returns-4 c = c .same .ensures ∙ back (c .before .before .before .before .before .before .before) .bytes
 
 pub comes-back-spec : {M : Type 1} → statement M
