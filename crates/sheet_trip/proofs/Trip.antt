@@ -23,7 +23,8 @@ use Rattle.sheet.specs.Sheet.{sameBytes}
 use Rattle.sheet.proofs.Laws.Names.{name-good}
 use Rattle.sheet.proofs.Laws.Parts.{part-tail, put-tail}
 use Rattle.sheet.proofs.Laws.Text.{same-self}
-use Rattle.sheet.proofs.Laws.RoundTrip.Lines.{accepted, written-reads, written-name}
+use Rattle.sheet.proofs.Laws.RoundTrip.Lines.{written-reads, written-name}
+use Rattle.sheet.proofs.Laws.Writing.Lines.{accepted}
 use Rattle.sheet_trip.specs.Same.{sameSample}
 
 -- Two samples, compared in turn: one number that differs settles it, and where the others agree the last does.
@@ -84,12 +85,12 @@ module _ (s : Sample) (name lent left : List ℕ) (w : Written) (room : length l
 
   -- Where it does not, the line stands.
   pub line-written : writtenNumber w ≡ 0 → length left ≡ lineLength → s .tag < 2 ^ 32 → Stands s name left
-  unfolding isTag
+  unfolding isTag writeLine
   line-written accepts size tag =
       let z : writeLine s name lent .number ≡ 0 = sym number-is ∙ accepts in
       record {
-        codes = accepted s name lent z .0;
-        named = accepted s name lent z .1;
+        codes = accepted s name lent z .codes;
+        named = accepted s name lent z .named;
         line =
             ap lineOf (sym (take-all lineLength left (omega arith)) ∙ ap (take lineLength) left-is)
             ∙ written-reads s name lent (lt-ltb (s .tag) _ tag) z;

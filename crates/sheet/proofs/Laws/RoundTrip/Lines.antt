@@ -11,13 +11,13 @@ use borrow.Author.Tests.{ltb-true, eq-eqb}
 use Rattle.colour.specs.declared.Sample.{Sample}
 use Rattle.colour.specs.Colour.{Channel, Red, Green, Blue, codeIn, isTag, codesFit}
 use Rattle.colour.proofs.Laws.Channels.{fit-codes}
-use Rattle.colour.proofs.Laws.Questions.{asked}
 use Rattle.sheet.specs.Column.{blank, newline, columnNumber, columnOf}
 use Rattle.sheet.specs.Line.{tagColumns, codeColumns, nameColumns, redStart, greenStart, blueStart, blankAt, nameStart, newlineAt, lineLength}
-use Rattle.sheet.specs.Line.{nameGood, lineFrom, nameField, codeColumn, lineNumbers, lineOf, numberColumns, lineBytes, writeNumber, writeLine}
+use Rattle.sheet.specs.Line.{nameGood, lineFrom, nameField, codeColumn, lineNumbers, lineOf, numberColumns, lineBytes, writeLine}
 use Rattle.sheet.proofs.Laws.RoundTrip.Columns.{column-at}
 use Rattle.sheet.proofs.Laws.Reading.Lines.{Formed, forms}
 use Rattle.sheet.proofs.Laws.Names.{name-good, filled, filled-length, filled-name, filled-good}
+use Rattle.sheet.proofs.Laws.Writing.Lines.{accepted}
 use Rattle.sheet.proofs.Laws.Writing.Lengths.{column-length, numbers-length, start-length, line-bytes-length}
 
 -- Where a channel's code starts.
@@ -120,14 +120,7 @@ module _ (s : Sample) (name : List ℕ) where
 
 -- Written over the bytes lent.
 module _ (s : Sample) (name lent : List ℕ) where
-  -- What is accepted has its codes in range and a good name.
-  pub accepted : writeLine s name lent .number ≡ 0 → (codesFit (s .colour) ≡ true) × (nameGood name ≡ true)
-  unfolding writeLine writeNumber
-  accepted z =
-      let codes = asked 4 (codesFit (s .colour)) _ (λ e. omega arith) z in
-      (codes .0, asked 10 (nameGood name) _ (λ e. omega arith) (codes .1) .0)
-
-  -- The line then stands first in the bytes lent.
+  -- The line stands first in the bytes lent.
   written-is : writeLine s name lent .number ≡ 0 → writeLine s name lent .lent ≡ lineBytes s name ++ drop lineLength lent
   unfolding writeLine
   written-is z = rw (eq-eqb _ 0 z, writeLine)
@@ -135,10 +128,11 @@ module _ (s : Sample) (name lent : List ℕ) where
   -- The first 62 of the bytes lent say the sample and the name's length.
   pub written-reads : isTag (s .tag) ≡ true → writeLine s name lent .number ≡ 0
       → lineOf (take lineLength (writeLine s name lent .lent)) ≡ some (record { sample = s; «name_length» = length name })
+  unfolding writeLine
   written-reads t z =
-      let g = accepted z in
-      rw (written-is z, take-at (lineBytes s name) _ lineLength (line-bytes-length s name (name-good name (g .1) .fits)))
-      (line-reads s name t (g .0) (g .1))
+      let a = accepted s name lent z in
+      rw (written-is z, take-at (lineBytes s name) _ lineLength (line-bytes-length s name (name-good name (a .named) .fits)))
+      (line-reads s name t (a .codes) (a .named))
 
   -- They hold the name's bytes.
   pub written-name : writeLine s name lent .number ≡ 0 → take (length name) (drop nameStart (writeLine s name lent .lent)) ≡ name

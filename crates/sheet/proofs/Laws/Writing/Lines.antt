@@ -130,6 +130,20 @@ refused W.NotCodes t e = omega arith
 refused W.NotName t e = omega arith
 refused W.TooShort t e = omega arith
 
+-- What is accepted: each question was answered with yes.
+pub record Accepted (s : Sample) (name lent : List ℕ) : Type 0 where
+  pub codes : codesFit (s .colour) ≡ true
+  pub named : nameGood name ≡ true
+  pub room : lineLength ≤ length lent
+
+pub accepted : (s : Sample) (name lent : List ℕ) → writeNumber s name lent ≡ 0 → Accepted s name lent
+unfolding writeNumber
+accepted s name lent z =
+    let codes = asked 4 (codesFit (s .colour)) _ (λ e. omega arith) z in
+    let named = asked 10 (nameGood name) _ (λ e. omega arith) (codes .1) in
+    let room = asked 13 (leb lineLength (length lent)) _ (λ e. omega arith) (named .1) in
+    record { codes = codes .0; named = named .0; room = leb-true lineLength (length lent) (room .0) }
+
 -- What is asked of the line to write, as the code asks it.
 module _ (s : Sample) (name lent : List ℕ) (codes good room : Bool) (w : Written)
     (c : codes ≡ codesFit (s .colour)) (n : good ≡ nameGood name) (r : room ≡ leb lineLength (length lent))
@@ -143,13 +157,8 @@ module _ (s : Sample) (name lent : List ℕ) (codes good room : Bool) (w : Writt
   unfolding written writeLine
   left-alone z = rw (number-is, ne-eqb (writeNumber s name lent) 0 (λ e. z (number-is ∙ e)))
 
-  -- Where none is refused, each was answered with yes.
-  pub all-yes : writtenNumber w ≡ 0 → (nameGood name ≡ true) × (lineLength ≤ length lent)
-  all-yes z =
-      let after = asked 4 codes _ (λ e. omega arith) (sym said ∙ z) in
-      let named = asked 10 good _ (λ e. omega arith) (after .1) in
-      let long = asked 13 room _ (λ e. omega arith) (named .1) in
-      (sym n ∙ named .0, leb-true lineLength (length lent) (sym r ∙ long .0))
+  pub all-yes : writtenNumber w ≡ 0 → Accepted s name lent
+  all-yes z = accepted s name lent (sym number-is ∙ z)
 
   -- The line stands over the bytes lent.
   pub line-stands : writtenNumber w ≡ 0 → (left : List ℕ) → left ≡ lineBytes s name ++ drop lineLength lent → written w left ≡ writeLine s name lent

@@ -28,7 +28,7 @@ put-line-requires c κs =
     let yes =
     all-yes (a .sample) (a .name .now) (a .line .now) _ _ _ (d .first-no .result) (d .before .before .codes-fit .ensures)
     (d .before .name-good .ensures) refl (d .first-no .ensures) (ap writtenNumber (c .before .enum-told .given .1)) in
-    (name-good _ (yes .0) .fits, yes .1)
+    (name-good _ (yes .named) .fits, yes .room)
 
 same-length : tie.Need-same-length
 same-length c = search needs
