@@ -4,9 +4,10 @@ use Prim.Native.Nat.{ℕ, zero, suc, _+_, _*_, _≤_, _<_}
 use native.Mathlib.Nat.{mul-add, mul-zero}
 use mathlib.Core.Bool.{Bool, true, false}
 use mathlib.Core.List.{List, [], _∷_, _++_}
-use mathlib.Core.Path.{_≡_, refl, sym, _∙_}
+use mathlib.Core.Path.{_≡_, refl, sym, ap, _∙_}
 use lib.Dec.{eqb}
-use lib.ListN.{length, length-append}
+use lib.ListN.{length, length-append, drop-of-length-le}
+use native.Mathlib.Numerals.{add-one}
 use native.Mathlib.Omega.{arith}
 use borrow.Author.Tests.{eqb-true, eqb-false, ne-eqb}
 use Rattle.model.specs.Lists.{keep, joined, total}
@@ -17,10 +18,34 @@ unfolding total
 total-le f g h zero = omega arith
 total-le f g h (suc n) = omega (arith, h n, total-le f g h n)
 
-pub total-same : (f g : ℕ → ℕ) → ((k : ℕ) → f k ≡ g k) → (n : ℕ) → total f n ≡ total g n
+-- Sums of the first n terms, of terms that are the same below n.
+pub total-same-below : (f g : ℕ → ℕ) (n : ℕ) → ((k : ℕ) → k < n → f k ≡ g k) → total f n ≡ total g n
 unfolding total
-total-same f g h zero = refl
-total-same f g h (suc n) = omega (arith, h n, total-same f g h n)
+total-same-below f g zero h = refl
+total-same-below f g (suc n) h = omega (arith, h n (omega arith), total-same-below f g n (λ k l. h k (omega arith)))
+
+pub total-same : (f g : ℕ → ℕ) → ((k : ℕ) → f k ≡ g k) → (n : ℕ) → total f n ≡ total g n
+total-same f g h n = total-same-below f g n (λ k l. h k)
+
+-- A term more.
+pub total-next : (f : ℕ → ℕ) (k : ℕ) → total f (k + 1) ≡ total f k + f k
+unfolding total
+total-next f k = ap (total f) (add-one k)
+
+-- A sum of fewer terms is no more.
+pub total-fewer : (f : ℕ → ℕ) (k n : ℕ) → k ≤ n → total f k ≤ total f n
+unfolding total
+total-fewer f k zero h = let z : k ≡ 0 = omega arith in rw z (omega arith)
+total-fewer f k (suc n) h = go (eqb k (suc n)) refl (λ l. total-fewer f k n l)
+  where
+    go : (r : Bool) → eqb k (suc n) ≡ r → (k ≤ n → total f k ≤ total f n) → total f k ≤ total f (suc n)
+    go true e rest = omega (arith, ap (total f) (eqb-true k (suc n) e))
+    go false e rest = omega (arith, rest (omega (arith, eqb-false k (suc n) e)))
+
+-- The terms before k and term k come to at most the first n, for k below n.
+pub total-past : (f : ℕ → ℕ) (k n : ℕ) → k < n → total f k + f k ≤ total f n
+unfolding total
+total-past f k n h = total-fewer f (suc k) n h
 
 pub total-add : (f g : ℕ → ℕ) (n : ℕ) → total (λ k. f k + g k) n ≡ total f n + total g n
 unfolding total
@@ -56,6 +81,10 @@ total-one i c (suc n) h = go (eqb i n) refl (λ l. total-one i c n l)
     go : (r : Bool) → eqb i n ≡ r → (i < n → total (λ k. if (eqb i k) c) n ≡ c) → total (λ k. if (eqb i k) c) (suc n) ≡ c
     go true e rest = let d : i ≡ n = eqb-true i n e in rw e (omega (arith, none-below i c n (omega arith)))
     go false e rest = let l : i < n = omega (arith, eqb-false i n e) in rw e (omega (arith, rest l))
+
+-- A list of no elements is empty.
+pub none-left : {A : Type 0} (xs : List A) → length xs ≡ 0 → xs ≡ []
+none-left xs h = drop-of-length-le xs {i = 0} (omega arith)
 
 -- Weights.
 unfoldable pub weigh : {A : Type 0} → (A → ℕ) → List A → ℕ

@@ -2,5 +2,8 @@
 pub mod Order
 pub mod Cubes
 pub mod Octants
+pub mod Splits
+pub mod Ordered
+pub mod Alike
 pub mod Counts
 pub mod Nearest

@@ -12,7 +12,7 @@ use Rattle.model.specs.Tables.{firstRow, nextRow}
 use Rattle.model.proofs.Tree.Order.{count, atRow, order-most}
 
 -- A sample that stands in a list is counted.
-stands : (before : List Placed) (x : Placed) (after : List Placed) → 1 ≤ count (atRow (x .row)) (before ++ (x ∷ after))
+pub stands : (before : List Placed) (x : Placed) (after : List Placed) → 1 ≤ count (atRow (x .row)) (before ++ (x ∷ after))
 unfolding count keep atRow
 stands [] x after = rw (eq-eqb (x .row) (x .row) refl, keep) (omega arith)
 stands (y ∷ before) x after = go (eqb (y .row) (x .row)) refl (stands before x after)
@@ -22,7 +22,7 @@ stands (y ∷ before) x after = go (eqb (y .row) (x .row)) refl (stands before x
     go true e h = rw (e, keep) (omega arith)
     go false e h = rw (e, keep) h
 
-next-in : (n : ℕ) (before : List Placed) (x : Placed) (after : List Placed) → count (atRow (x .row)) (before ++ (x ∷ after)) ≤ 1
+pub next-in : (n : ℕ) (before : List Placed) (x : Placed) (after : List Placed) → count (atRow (x .row)) (before ++ (x ∷ after)) ≤ 1
     → nextRow n (x .row) (before ++ (x ∷ after)) ≡ firstRow n after
 unfolding nextRow count keep atRow
 next-in n [] x after h = rw (eq-eqb (x .row) (x .row) refl, nextRow)
