@@ -1,0 +1,4 @@
+-- The partition step: those of each digit, sizes and starts, places.
+pub mod Digits
+pub mod Sizes
+pub mod Placing

@@ -1,0 +1,214 @@
+-- The checking call: what sound tables are, and that tables which hold the set that they say are sound.
+use Prim.Native.Nat.{ℕ, _-_, _≤_, _<_}
+use mathlib.Core.Bool.{Bool, true, false, false≢true, not, _&&_, and-eq-true-iff}
+use mathlib.Core.List.{List}
+use mathlib.Core.Logic.{_↔_, Iff·trans}
+use mathlib.Core.Path.{_≡_, sym, ap, ap₂, _∙_, subst}
+use native.Mathlib.Omega.{arith}
+use borrow.Author.Tests.{le-leb, leb-true, not-true}
+use lib.Dec.{leb}
+use lib.ListN.{length, take, replicate, length-replicate}
+use lib.Seq.{length-take-le}
+use Rattle.model.specs.Layout.{current, Bucket, sampleHeader, octantHeader, sampleRows, octantRows}
+use Rattle.model.specs.Lists.{padded}
+use Rattle.model.specs.Machine.{Machine, tablesOf}
+use Rattle.model.specs.Meets.{CheckMeets}
+use Rattle.model.specs.SampleSet.{SampleSet, octants}
+use Rattle.model.specs.Sound.{codesInRange, distinct, Shows, Sound, longEnough}
+use Rattle.model.specs.Tables.{sampleWords, pair, tablesFor, Tables}
+use Rattle.model.proofs.Tables.Numbers.{current-numbers}
+use Rattle.octree.specs.Entries.{entriesOf}
+use Rattle.octree.specs.Rows.{settingIn, countIn, samplesFrom, setOf}
+use Rattle.octree.specs.Steps.{Headed, SameTables, Holds, Listed}
+use Rattle.model.proofs.Tables.Unique as unique
+use Rattle.octree.proofs.Laws.Answers.{says-no, refuted}
+use Rattle.octree.proofs.Laws.Layout.Samples.{samples-length}
+use Rattle.octree.proofs.Laws.Tables.Reading.{count-read, bucket-read, samples-read}
+
+-- The tags and the codes beside. Entries keep their number through the calls: n at first, then m, then those of es.
+module _ (b n : ℕ) (ws os : List ℕ) where
+  pub twice : (q : Bool) → not q ≡ true → (q ≡ true) ↔ distinct (samplesFrom current ws 0 n) → (false ≡ true) ↔ Holds b n ws os
+  twice q off t = refuted q off t (λ h. h .tags-distinct)
+
+  module _ (m : ℕ) (kept : m ≡ n) where
+    pub out-of-range : (q : Bool) → not q ≡ true → (codesInRange (samplesFrom current ws 0 m) → q ≡ true) → (false ≡ true) ↔ Holds b n ws os
+    out-of-range q off t =
+        says-no (λ h. false≢true (sym (not-true q off) ∙ t (subst (λ (k : ℕ). codesInRange (samplesFrom current ws 0 k)) (sym kept) (h .in-range))))
+
+    module _ (es : List ℕ) (as-long : length es ≡ m) where
+      pub now-listed : (scratch scratch′ : ℕ) → Headed b ws os n scratch → scratch′ ≡ scratch
+          → es ≡ entriesOf (samplesFrom current ws 0 m) → Listed b ws os es scratch′
+      now-listed scratch scratch′ h e entries =
+          record {
+            headed =
+                record {
+                  sample-words = h .sample-words;
+                  octant-words = h .octant-words;
+                  few = omega (arith, kept, as-long, h .few);
+                  space = omega (arith, kept, as-long, h .space);
+                  counted = h .counted ∙ sym (as-long ∙ kept);
+                  bucket = h .bucket;
+                };
+            entries = entries ∙ ap (λ (k : ℕ). entriesOf (samplesFrom current ws 0 k)) (sym as-long);
+          }
+
+      pub set-tells : distinct (samplesFrom current ws 0 n) → codesInRange (samplesFrom current ws 0 m) → (q : Bool)
+          → (q ≡ true) ↔ SameTables b (length es) ws os → (q ≡ true) ↔ Holds b n ws os
+      set-tells d i q t =
+          Iff·trans t (
+            λ same. record {
+              tags-distinct = d;
+              in-range = subst (λ (k : ℕ). codesInRange (samplesFrom current ws 0 k)) kept i;
+              tables = subst (λ (k : ℕ). SameTables b k ws os) (as-long ∙ kept) same;
+            },
+            λ h. subst (λ (k : ℕ). SameTables b k ws os) (sym (as-long ∙ kept)) (h .tables),
+          )
+
+-- Sound tables: what their words say of the machine that they show.
+module _ (ws os : List ℕ) (m : Machine) (shows : Shows current m (pair ws os)) where
+  sample-words : ws ≡ padded (m .sampleLength) (sampleWords current (m .set))
+  unfolding tablesOf tablesFor
+  sample-words = ap (λ (t : Tables). t .samples) (shows .words)
+
+  pub sample-length : length ws ≡ m .sampleLength
+  sample-length = unique.samples-length current unique.current-complete m (pair ws os) shows
+
+  pub octant-length : length os ≡ m .octantLength
+  octant-length = unique.octants-length current unique.current-complete m (pair ws os) shows
+
+  -- The zeros after its named words.
+  abbrev zeros : List ℕ
+  zeros = replicate (m .sampleLength - length (sampleWords current (m .set))) 0
+
+  pub count-shown : countIn ws ≡ length (m .set .samples)
+  unfolding padded
+  count-shown = ap countIn sample-words ∙ count-read (m .set) zeros
+
+  pub bucket-shown : settingIn current ws Bucket ≡ m .set .settings .bucket
+  unfolding padded
+  bucket-shown = ap (λ (l : List ℕ). settingIn current l Bucket) sample-words ∙ bucket-read (m .set) zeros
+
+  samples-shown : samplesFrom current ws 0 (length (m .set .samples)) ≡ m .set .samples
+  unfolding padded
+  samples-shown =
+      ap (λ (l : List ℕ). samplesFrom current l 0 (length (m .set .samples))) sample-words ∙ samples-read (m .set) zeros
+
+  -- The set that they say is the machine's.
+  module _ (b c : ℕ) (is-bucket : settingIn current ws Bucket ≡ b) (is-count : countIn ws ≡ c) where
+    said-samples : samplesFrom current ws 0 c ≡ m .set .samples
+    said-samples = ap (samplesFrom current ws 0) (sym is-count ∙ count-shown) ∙ samples-shown
+
+    set-said : setOf current ws b c ≡ m .set
+    unfolding setOf
+    set-said = λ i. record { settings = record { bucket = (sym is-bucket ∙ bucket-shown) i }; samples = said-samples i }
+
+    pub sound-holds : Holds b c ws os
+    unfolding tablesOf
+    sound-holds =
+        record {
+          tags-distinct = subst distinct (sym said-samples) (shows .valid .tags-distinct);
+          in-range = subst codesInRange (sym said-samples) (shows .valid .in-range);
+          tables =
+              record {
+                octants-fit =
+                    subst (λ (k : ℕ). k ≤ octantRows current (length os)) (sym (ap octants set-said))
+                    (subst (λ (k : ℕ). octants (m .set) ≤ octantRows current k) (sym octant-length) (shows .valid .octants-fit));
+                words =
+                    shows .words
+                    ∙ sym
+                    (ap₂ (λ (set : SampleSet) (k : ℕ). tablesFor current set k (length os)) set-said sample-length
+                    ∙ ap (tablesFor current (m .set) (m .sampleLength)) octant-length);
+              };
+        }
+
+-- Where one test says no, no machine has the tables.
+module _ (ws os : List ℕ) where
+  no-machine : ((m : Machine) → Shows current m (pair ws os) → ⊥) → CheckMeets (pair ws os) false
+  no-machine ne = record { sound = λ e. absurd (false≢true e); complete = λ s. absurd (ne (s .machine) (s .shows)) }
+
+  pub too-short : longEnough current (pair ws os) ≡ false → CheckMeets (pair ws os) false
+  unfolding longEnough
+  too-short e =
+      no-machine
+      (λ m s.
+      let headed-samples : sampleHeader current ≤ length ws = omega (arith, sample-length ws os m s, s .valid .sample-words) in
+      let headed-octants : octantHeader current ≤ length os = omega (arith, octant-length ws os m s, s .valid .octant-words) in
+      false≢true
+      (sym e ∙ ap₂ (λ (x y : Bool). x && y) (le-leb (sampleHeader current) (length ws) headed-samples)
+      (le-leb (octantHeader current) (length os) headed-octants)))
+
+  pub bucket-out : (leb 1 (settingIn current ws Bucket) && leb (settingIn current ws Bucket) 256) ≡ false → CheckMeets (pair ws os) false
+  bucket-out e =
+      no-machine
+      (λ m s.
+      let b : ℕ = settingIn current ws Bucket in
+      let low : 1 ≤ b = omega (arith, bucket-shown ws os m s, s .valid .bucket-low) in
+      let high : b ≤ 256 = omega (arith, bucket-shown ws os m s, s .valid .bucket-high) in
+      false≢true (sym e ∙ ap₂ (λ (x y : Bool). x && y) (le-leb 1 b low) (le-leb b 256 high)))
+
+  pub rows-over : sampleRows current (length ws) < countIn ws → CheckMeets (pair ws os) false
+  rows-over h =
+      no-machine
+      (λ m s. omega (arith, count-shown ws os m s, ap (sampleRows current) (sample-length ws os m s), s .valid .rows-fit))
+
+-- What the header's tests leave: long is what was said of the lengths, k the count, and n the places lent for it.
+pub both-long : (ws os : List ℕ) → longEnough current (pair ws os) ≡ true → (2 ≤ length ws) × (1 ≤ length os)
+unfolding longEnough
+both-long ws os long =
+    let h = and-eq-true-iff (leb (sampleHeader current) (length ws)) (leb (octantHeader current) (length os)) .0 long in (
+      omega (arith, current-numbers .sample-header, leb-true (sampleHeader current) (length ws) (h .0)),
+      omega (arith, current-numbers .octant-header, leb-true (octantHeader current) (length os) (h .1)),
+    )
+
+module _ (ws os : List ℕ) (b k n : ℕ) (long : longEnough current (pair ws os) ≡ true) (counted : k ≡ countIn ws)
+    (bucket : b ≡ settingIn current ws Bucket) (few : k ≤ sampleRows current (length ws)) (lent : k ≡ n) where
+  pub header-right : (scratch : ℕ) → n ≤ scratch → Headed b ws os n scratch
+  header-right scratch h =
+      record {
+        sample-words = both-long ws os long .0;
+        octant-words = both-long ws os long .1;
+        few = omega (arith, few, lent);
+        space = h;
+        counted = sym counted ∙ lent;
+        bucket = sym bucket;
+      }
+
+  shown-by : 1 ≤ b → b ≤ 256 → Holds b n ws os → Sound current (pair ws os)
+  unfolding tablesOf setOf
+  shown-by low high h =
+      record {
+        machine = record { set = setOf current ws b n; sampleLength = length ws; octantLength = length os };
+        shows =
+            record {
+              valid =
+                  record {
+                    sample-words = omega (arith, current-numbers .sample-header, both-long ws os long .0);
+                    octant-words = omega (arith, current-numbers .octant-header, both-long ws os long .1);
+                    bucket-low = low;
+                    bucket-high = high;
+                    tags-distinct = h .tags-distinct;
+                    in-range = h .in-range;
+                    rows-fit = omega (arith, samples-length ws n 0, few, lent);
+                    octants-fit = h .tables .octants-fit;
+                  };
+              words = h .tables .words;
+            };
+      }
+
+  pub checked : (leb 1 b && leb b 256) ≡ true → (r : Bool) → (r ≡ true) ↔ Holds b n ws os → CheckMeets (pair ws os) r
+  checked in-range r t =
+      let both = and-eq-true-iff (leb 1 b) (leb b 256) .0 in-range in
+      record {
+        sound = λ e. shown-by (leb-true 1 b (both .0)) (leb-true b 256 (both .1)) (t .0 e);
+        complete = λ s. t .1 (sound-holds ws os (s .machine) (s .shows) b n (sym bucket) (sym counted ∙ lent));
+      }
+
+-- The first n places of 4,096.
+abbrev pub places : List ℕ
+places = replicate 4096 0
+
+pub places-first : (n : ℕ) → n ≤ 4096 → n ≡ length (take n places)
+places-first n h = sym (length-take-le n places (omega (arith, length-replicate {A = ℕ} 4096 0)))
+
+pub places-few : (n : ℕ) → n ≤ 4096 → length (take n places) ≤ 4096
+places-few n h = subst (λ (k : ℕ). k ≤ 4096) (places-first n h) h

@@ -1,0 +1,178 @@
+-- Entries in their order: what writing their tables asks, and what is said of those that were judged.
+use Prim.Native.Nat.{ℕ, _≤_, _<_}
+use mathlib.Core.Bool.{Bool, true, false, not}
+use mathlib.Core.List.{List, [], _∷_}
+use mathlib.Core.Logic.{_↔_, ⊎-elim, Iff·trans}
+use mathlib.Core.Option.{Option·none-ne-some, Option·some-injective}
+use mathlib.Core.Path.{_≡_, sym, ap, ap₂, _∙_, subst}
+use native.Mathlib.Omega.{arith}
+use borrow.Author.Tests.{le-leb, leb-true, lt-leb}
+use types.Run.{OneOf}
+use denote.Enum.Declared.{tagOf}
+use lib.Dec.{leb}
+use lib.ListN.{length}
+use Rattle.colour.specs.Octant.{depths}
+use Rattle.colour.specs.Question.{firstNo}
+use Rattle.colour.proofs.Laws.Questions.{asked}
+use Rattle.model.specs.Layout.{current, Bucket, sampleRows, octantRows}
+use Rattle.model.specs.SampleSet.{orderOf, octantsOf, octants}
+use Rattle.model.specs.Tables.{pair, tablesFor, Tables}
+use Rattle.octree.specs.Entries.{view}
+use Rattle.octree.specs.Rows.{settingIn, samplesFrom, setOf}
+use Rattle.octree.specs.Steps.{Ordered, RowsOnce, sampleTableBy, octantTableBy, SameTables, Writable, Listed, fitsRows, fitNumber, fitOctants, Judged}
+use Rattle.octree.specs.declared.tables.Fit.{Fit}
+use Rattle.octree.specs.declared.tables.Fit.the-variants as F
+use Rattle.octree.proofs.Laws.Answers.{says-no, refuted}
+use Rattle.octree.proofs.Laws.Entries.Tagless.{entries-octants, InOrder, is-ordered, same-octants, sample-table, octant-table, rows-once}
+use Rattle.octree.proofs.Laws.Layout.Places.{rows-few}
+use Rattle.octree.proofs.Laws.Layout.Samples.{samples-length}
+use Rattle.octree.proofs.tables.Fit.{the-type}
+
+-- Questions 6 and 7 for a list of samples.
+module _ (b : ℕ) (es after : List ℕ) (samples octs : ℕ) where
+  abbrev count : ℕ
+  count = octantsOf b depths (view es)
+
+  pub lacks-row : sampleRows current samples < length es → Judged b es after samples octs F.NoRow
+  unfolding fitNumber fitOctants fitsRows firstNo
+  lacks-row h =
+      record {
+        number = rw (lt-leb (length es) (sampleRows current samples) h, firstNo);
+        octants = λ n e. absurd (Option·none-ne-some n e);
+        order = λ n e. absurd (Option·none-ne-some n e);
+      }
+
+  pub lacks-octants : length es ≤ sampleRows current samples → octantRows current octs < count → Judged b es after samples octs F.NoOctants
+  unfolding fitNumber fitOctants fitsRows firstNo
+  lacks-octants h k =
+      record {
+        number = rw (le-leb (length es) (sampleRows current samples) h, firstNo, lt-leb count (octantRows current octs) k, firstNo);
+        octants = λ n e. absurd (Option·none-ne-some n e);
+        order = λ n e. absurd (Option·none-ne-some n e);
+      }
+
+  pub judged : (n : ℕ) → length es ≤ sampleRows current samples → n ≤ octantRows current octs → n ≡ octantsOf b depths (view es)
+      → view after ≡ orderOf b depths (view es) → Judged b es after samples octs (F.Fits n)
+  unfolding fitNumber fitOctants fitsRows firstNo
+  judged n h k c o =
+      record {
+        number = rw (le-leb (length es) (sampleRows current samples) h, firstNo, le-leb count (octantRows current octs) (omega arith), firstNo);
+        octants = λ m e. sym (Option·some-injective n m e) ∙ c;
+        order = λ m e. o;
+      }
+
+-- What writing asks of both tables, and what it comes to.
+module _ {b : ℕ} {ws : List ℕ} (os : List ℕ) {es : List ℕ} (w : Writable b ws (length os) es) where
+  written-order : InOrder b (samplesFrom current ws 0 (length es)) es
+  written-order = record { few = omega (arith, samples-length ws (length es) 0, rows-few (length ws), w .few); order = w .order }
+
+  pub written-once : RowsOnce (length es) es
+  written-once = subst (λ (n : ℕ). RowsOnce n es) (samples-length ws (length es) 0) (rows-once written-order)
+
+  pub written-few : length es ≤ 4096
+  written-few = omega (arith, rows-few (length ws), w .few)
+
+  pub written-ordered : Ordered b depths es
+  written-ordered = is-ordered written-order
+
+  pub written-fits : octantsOf b depths (view es) ≤ octantRows current (length os)
+  unfolding setOf
+  written-fits = omega (arith, same-octants written-order, w .room)
+
+  pub written : (ws′ os′ : List ℕ) → ws′ ≡ sampleTableBy (length ws) b (view es) (samplesFrom current ws 0 (length es))
+      → os′ ≡ octantTableBy (length os) b es → pair ws′ os′ ≡ tablesFor current (setOf current ws b (length es)) (length ws) (length os)
+  unfolding setOf tablesFor
+  written ws′ os′ d e = ap₂ pair (d ∙ sample-table written-order (length ws)) (e ∙ octant-table written-order (length os))
+
+-- What is said of tables whose entries are listed and judged.
+pub unfit : (r : Fit) → OneOf (1 ∷ 2 ∷ []) (tagOf the-type r) → fitNumber r ≡ 0 → ⊥
+unfolding fitNumber
+unfit (F.Fits n) t e = ⊎-elim (λ z. omega arith) (λ z. omega arith) t
+unfit F.NoRow t e = omega arith
+unfit F.NoOctants t e = omega arith
+
+module _ {b : ℕ} {ws os es after : List ℕ} {scratch : ℕ} (listed : Listed b ws os es scratch) {r : Fit}
+    (told : Judged b es after (length ws) (length os) r) where
+  abbrev Same : Type 0
+  Same = SameTables b (length es) ws os
+
+  samples-few : length (samplesFrom current ws 0 (length es)) ≤ 4096
+  samples-few = omega (arith, samples-length ws (length es) 0, rows-few (length ws), listed .headed .few)
+
+  listed-octants : octantsOf b depths (view es) ≡ octants (setOf current ws b (length es))
+  unfolding setOf
+  listed-octants =
+      ap (λ (l : List ℕ). octantsOf b depths (view l)) (listed .entries) ∙ entries-octants b (samplesFrom current ws 0 (length es)) samples-few
+
+  fits-by : Same → fitNumber r ≡ 0
+  unfolding fitsRows firstNo
+  fits-by same =
+      let fits : octantsOf b depths (view es) ≤ octantRows current (length os) = omega (arith, listed-octants, same .octants-fit) in
+      told .number
+      ∙ rw (
+        le-leb (length es) (sampleRows current (length ws)) (listed .headed .few),
+        firstNo,
+        le-leb (octantsOf b depths (view es)) (octantRows current (length os)) fits,
+        firstNo,
+      )
+
+  pub not-fitting : (fitNumber r ≡ 0 → ⊥) → (false ≡ true) ↔ Same
+  not-fitting ne = says-no (λ same. ne (fits-by same))
+
+  module _ {n : ℕ} (fits : r ≡ F.Fits n) (as-long : length after ≡ length es) where
+    octants-said : n ≡ octantsOf b depths (view es)
+    unfolding fitOctants
+    octants-said = told .octants n (ap fitOctants fits)
+
+    ordered-by : InOrder b (samplesFrom current ws 0 (length es)) after
+    unfolding fitOctants
+    ordered-by =
+        record { few = samples-few; order = told .order n (ap fitOctants fits) ∙ ap (λ (l : List ℕ). orderOf b depths (view l)) (listed .entries) }
+
+    pub judged-once : RowsOnce (length after) after
+    judged-once =
+        subst (λ (m : ℕ). RowsOnce m after) (samples-length ws (length es) 0 ∙ sym as-long) (rows-once ordered-by)
+
+    pub judged-few : length after ≤ sampleRows current (length ws)
+    judged-few = omega (arith, as-long, listed .headed .few)
+
+    pub judged-ordered : Ordered b depths after
+    judged-ordered = is-ordered ordered-by
+
+    pub judged-octants : n ≡ octantsOf b depths (view after)
+    unfolding setOf
+    judged-octants = octants-said ∙ listed-octants ∙ sym (same-octants ordered-by)
+
+    pub judged-room : n ≤ octantRows current (length os)
+    unfolding fitNumber fitsRows
+    judged-room =
+        let rest = asked 6 (leb (length es) (sampleRows current (length ws))) _ (λ e. omega arith) (sym (told .number) ∙ ap fitNumber fits) .1 in
+        let yes = asked 7 (leb (octantsOf b depths (view es)) (octantRows current (length os))) _ (λ e. omega arith) rest .0 in
+        omega (arith, octants-said, leb-true (octantsOf b depths (view es)) (octantRows current (length os)) yes)
+
+    sample-words-are : sampleTableBy (length ws) (settingIn current ws Bucket) (view after) (samplesFrom current ws 0 (length after))
+        ≡ tablesFor current (setOf current ws b (length es)) (length ws) (length os) .samples
+    unfolding setOf tablesFor
+    sample-words-are =
+        ap₂ (λ (c m : ℕ). sampleTableBy (length ws) c (view after) (samplesFrom current ws 0 m)) (listed .headed .bucket) as-long
+        ∙ sample-table ordered-by (length ws)
+
+    octant-words-are : octantTableBy (length os) b after ≡ tablesFor current (setOf current ws b (length es)) (length ws) (length os) .octants
+    unfolding setOf tablesFor
+    octant-words-are = octant-table ordered-by (length os)
+
+    pub samples-differ : (q : Bool) → not q ≡ true
+        → (q ≡ true) ↔ (ws ≡ sampleTableBy (length ws) (settingIn current ws Bucket) (view after) (samplesFrom current ws 0 (length after)))
+        → (false ≡ true) ↔ Same
+    samples-differ q off t = refuted q off t (λ same. ap (λ (x : Tables). x .samples) (same .words) ∙ sym sample-words-are)
+
+    pub tables-tell : ws ≡ sampleTableBy (length ws) (settingIn current ws Bucket) (view after) (samplesFrom current ws 0 (length after)) → (q : Bool)
+        → (q ≡ true) ↔ (os ≡ octantTableBy (length os) b after) → (q ≡ true) ↔ Same
+    tables-tell s q t =
+        Iff·trans t (
+          λ o. record {
+            octants-fit = omega (arith, octants-said, listed-octants, judged-room);
+            words = ap₂ pair (s ∙ sample-words-are) (o ∙ octant-words-are);
+          },
+          λ same. ap (λ (x : Tables). x .octants) (same .words) ∙ sym octant-words-are,
+        )

@@ -1,0 +1,2 @@
+-- Laws on the definitions of tables, and what the proofs of the functions need of them.
+pub mod Laws

@@ -1,0 +1,82 @@
+-- A table's words by row and field, over the layout: where a field stands, and the set that a sample table says.
+use Prim.Native.Nat.{ℕ, zero, suc, _+_, _*_}
+use mathlib.Core.Bool.{true, false}
+use mathlib.Core.List.{List, [], _∷_, map}
+use lib.Dec.{eqb}
+use lib.ListN.{getD}
+use Rattle.colour.specs.declared.Sample.{Sample}
+use Rattle.colour.specs.Colour.{colourBy}
+use Rattle.colour.specs.Octant.{bitWeight}
+use Rattle.model.specs.SampleSet.{SampleSet}
+use Rattle.model.specs.Layout.{Setting, Bucket, SampleField, Tag, Code, Next, OctantField, First, Last, Count, Child, Layout, sampleHeader, sampleWidth, octantHeader, octantWidth}
+
+-- A number for each field, by which fields are told apart.
+unfoldable pub settingId : Setting → ℕ
+settingId Bucket = 0
+
+unfoldable pub sampleId : SampleField → ℕ
+sampleId Tag = 0
+sampleId (Code h) = bitWeight h
+sampleId Next = 5
+
+unfoldable pub octantId : OctantField → ℕ
+octantId First = 0
+octantId Last = 1
+octantId Count = 2
+octantId (Child k) = 3 + k
+
+-- The place of a field among the fields of a row.
+unfoldable pub place : {F : Type 0} → (F → ℕ) → F → List F → ℕ
+place id f [] = 0
+place id f (g ∷ rest) = elim (eqb (id g) (id f)) [ true ↦ 0 | false ↦ suc (place id f rest) ]
+
+-- The word before which n sample rows stand, and n octant rows.
+unfoldable pub sampleStart : Layout → ℕ → ℕ
+sampleStart L n = sampleHeader L + sampleWidth L * n
+
+unfoldable pub octantStart : Layout → ℕ → ℕ
+octantStart L n = octantHeader L + octantWidth L * n
+
+-- The word of the sample table that holds field f of row i.
+unfoldable pub sampleAt : Layout → SampleField → ℕ → ℕ
+sampleAt L f i = sampleStart L i + place sampleId f (L .sample)
+
+-- Field f of row i.
+unfoldable pub sampleField : Layout → List ℕ → ℕ → SampleField → ℕ
+sampleField L ws i f = getD ws (sampleAt L f i) 0
+
+-- A setting in the header.
+unfoldable pub settingIn : Layout → List ℕ → Setting → ℕ
+settingIn L ws s = getD ws (suc (place settingId s (L .settings))) 0
+
+-- The count that a table of either kind starts with.
+unfoldable pub countIn : List ℕ → ℕ
+countIn ws = getD ws 0 0
+
+-- The sample in row i.
+unfoldable pub sampleIn : Layout → List ℕ → ℕ → Sample
+sampleIn L ws i = record { tag = sampleField L ws i Tag; colour = colourBy (λ h. sampleField L ws i (Code h)) }
+
+-- The samples in rows i, .., i + n - 1.
+unfoldable pub samplesFrom : Layout → List ℕ → ℕ → ℕ → List Sample
+samplesFrom L ws i zero = []
+samplesFrom L ws i (suc n) = sampleIn L ws i ∷ samplesFrom L ws (suc i) n
+
+-- The set of n samples that a sample table's rows say, with a bucket size.
+unfoldable pub setOf : Layout → List ℕ → ℕ → ℕ → SampleSet
+setOf L ws b n = record { settings = record { bucket = b }; samples = samplesFrom L ws 0 n }
+
+-- The set that a sample table says.
+unfoldable pub setIn : Layout → List ℕ → SampleSet
+setIn L ws = setOf L ws (settingIn L ws Bucket) (countIn ws)
+
+-- A word of an octant row, from what the row says.
+unfoldable pub octantFieldOf : ℕ → ℕ → ℕ → List ℕ → OctantField → ℕ
+octantFieldOf first last count kids First = first
+octantFieldOf first last count kids Last = last
+octantFieldOf first last count kids Count = count
+octantFieldOf first last count kids (Child k) = getD kids k 0
+
+-- The row.
+unfoldable pub octantRowBy : Layout → ℕ → ℕ → ℕ → List ℕ → List ℕ
+octantRowBy L first last count kids = map (octantFieldOf first last count kids) (L .octant)

@@ -1,0 +1,183 @@
+// Whole tables: a list of samples is judged by its rows and octant rows, tables are written, and checked.
+use crate::entry::fill;
+use crate::layout::bucket as bucket_of;
+use crate::layout::bucket_fits;
+use crate::layout::count as count_of;
+use crate::layout::long_enough;
+use crate::layout::octant_rows;
+use crate::layout::octant_start;
+use crate::layout::put_count;
+use crate::layout::put_header;
+use crate::layout::sample_rows;
+use crate::layout::sample_start;
+use crate::next::all_are;
+use crate::next::put_all;
+use crate::order::order;
+use crate::rows::Compared;
+use crate::rows::build;
+use crate::rows::compare;
+use crate::tags::all_apart;
+use crate::words::are_zero;
+use crate::words::clear;
+ghost use Prim.Native.Nat.{_≤_, _<_};
+ghost use mathlib.Core.Bool.{true};
+ghost use mathlib.Core.Logic.{_↔_};
+ghost use mathlib.Core.Path.{_≡_};
+ghost use lib.ListN.{length};
+ghost use Rattle.colour.specs.Octant.{depths};
+ghost use Rattle.model.specs.SampleSet.{octantsOf};
+ghost use Rattle.model.specs.Layout.{Bucket, current, sampleRows, octantRows};
+ghost use Rattle.model.specs.Tables.{pair, tablesFor};
+ghost use Rattle.model.specs.Meets.{CheckMeets};
+ghost use Rattle.octree.specs.Rows.{countIn, settingIn, samplesFrom, setOf};
+ghost use Rattle.octree.specs.Entries.{view};
+ghost use Rattle.octree.specs.Steps.{Ordered, RowsOnce, Judged, Writable, Headed, Listed, SameTables, Holds, sampleTableBy, octantTableBy};
+
+// Whether a list of samples finds rows and its tree finds octant rows: questions 6 and 7.
+pub enum Fit {
+    Fits(u32),
+    NoRow,
+    NoOctants,
+}
+
+// Judges a list of samples by its entries, for tables of these lengths, and puts the entries in their order.
+pub fn judge(
+    entries: &mut [u64],
+    scratch: &mut [u64],
+    bucket: u32,
+    samples: usize,
+    octants: usize,
+) -> Fit
+    requires { ⌜ (length (now entries) ≤ 4096) × (length (now entries) ≤ length (now scratch)) ⌝ }
+    ensures { λ r. ⌜ Judged bucket (now (entries .entry)) (now (entries .exit)) samples octants r ⌝ }
+{
+    if sample_rows(samples) < entries.len() {
+        return Fit::NoRow;
+    }
+    let found = order(entries, scratch, bucket as usize, 16);
+    if octant_rows(octants) < (found as usize) {
+        return Fit::NoOctants;
+    }
+    Fit::Fits(found)
+}
+
+// Writes the sample table of the samples in its first rows, given their entries in their order.
+fn write_samples(samples: &mut [u32], bucket: u32, ordered: &[u64])
+    requires { ⌜ (2 ≤ length (now samples)) × (length (now ordered) ≤ sampleRows current (length (now samples))) × (RowsOnce (length (now ordered)) (now ordered)) ⌝ }
+    ensures { λ _. ⌜ now (samples .exit) ≡ sampleTableBy (length (now (samples .entry))) bucket (view (now (ordered .entry))) (samplesFrom current (now (samples .entry)) 0 (length (now (ordered .entry)))) ⌝ }
+{
+    let n = ordered.len();
+    put_all(samples, ordered);
+    put_header(samples, n as u32, bucket);
+    let from = sample_start(n);
+    clear(&mut samples[from..]);
+}
+
+// Writes the octant table of ordered entries.
+fn write_octants(octants: &mut [u32], bucket: u32, ordered: &[u64])
+    requires { ⌜ (1 ≤ length (now octants)) × (length (now ordered) ≤ 4096) × (Ordered bucket depths (now ordered)) × (octantsOf bucket depths (view (now ordered)) ≤ octantRows current (length (now octants))) ⌝ }
+    ensures { λ _. ⌜ now (octants .exit) ≡ octantTableBy (length (now (octants .entry))) bucket (now (ordered .entry)) ⌝ }
+{
+    let start = octant_start(0);
+    let used = build(ordered, bucket as usize, 16, 0, &mut octants[start..]);
+    put_count(octants, used);
+    let from = octant_start(used);
+    clear(&mut octants[from..]);
+}
+
+// Writes the tables of the samples that stand in the first rows, as many as there are entries.
+pub fn write(samples: &mut [u32], octants: &mut [u32], bucket: u32, ordered: &[u64])
+    requires { ⌜ Writable bucket (now samples) (length (now octants)) (now ordered) ⌝ }
+    ensures { λ _. ⌜ pair (now (samples .exit)) (now (octants .exit)) ≡ tablesFor current (setOf current (now (samples .entry)) bucket (length (now (ordered .entry)))) (length (now (samples .entry))) (length (now (octants .entry))) ⌝ }
+{
+    write_samples(samples, bucket, ordered);
+    write_octants(octants, bucket, ordered);
+}
+
+// Whether the sample table is that of the samples in its first rows, given their entries in their order; the header is known to be right.
+fn samples_are(samples: &[u32], ordered: &[u64]) -> bool
+    requires { ⌜ (2 ≤ length (now samples)) × (length (now ordered) ≤ sampleRows current (length (now samples))) × (RowsOnce (length (now ordered)) (now ordered)) × (countIn (now samples) ≡ length (now ordered)) ⌝ }
+    ensures { λ r. ⌜ (r ≡ true) ↔ (now (samples .entry) ≡ sampleTableBy (length (now (samples .entry))) (settingIn current (now (samples .entry)) Bucket) (view (now (ordered .entry))) (samplesFrom current (now (samples .entry)) 0 (length (now (ordered .entry))))) ⌝ }
+{
+    if !all_are(samples, ordered) {
+        return false;
+    }
+    let from = sample_start(ordered.len());
+    are_zero(&samples[from..])
+}
+
+// Whether the octant table is that of ordered entries, which come to so many octants.
+fn octants_are(octants: &[u32], bucket: u32, count: u32, ordered: &[u64]) -> bool
+    requires { ⌜ (1 ≤ length (now octants)) × (length (now ordered) ≤ 4096) × (Ordered bucket depths (now ordered)) × (count ≡ octantsOf bucket depths (view (now ordered))) × (count ≤ octantRows current (length (now octants))) ⌝ }
+    ensures { λ r. ⌜ (r ≡ true) ↔ (now (octants .entry) ≡ octantTableBy (length (now (octants .entry))) bucket (now (ordered .entry))) ⌝ }
+{
+    if count_of(octants) != count {
+        return false;
+    }
+    let start = octant_start(0);
+    let Compared::Same(used) = compare(ordered, bucket as usize, 16, 0, &octants[start..]) else {
+        return false;
+    };
+    let from = octant_start(used);
+    are_zero(&octants[from..])
+}
+
+// Whether the tables are those of the samples whose entries, by arrival, are lent.
+fn same_tables(
+    samples: &[u32],
+    octants: &[u32],
+    bucket: u32,
+    entries: &mut [u64],
+    scratch: &mut [u64],
+) -> bool
+    requires { ⌜ Listed bucket (now samples) (now octants) (now entries) (length (now scratch)) ⌝ }
+    ensures { λ r. ⌜ (r ≡ true) ↔ (SameTables bucket (length (now (entries .entry))) (now (samples .entry)) (now (octants .entry))) ⌝ }
+{
+    let Fit::Fits(count) = judge(entries, scratch, bucket, samples.len(), octants.len()) else {
+        return false;
+    };
+    if !samples_are(samples, entries) {
+        return false;
+    }
+    octants_are(octants, bucket, count, entries)
+}
+
+// Whether the tables are those of the samples in the first rows, as many as there are places for entries.
+fn hold(
+    samples: &[u32],
+    octants: &[u32],
+    bucket: u32,
+    entries: &mut [u64],
+    scratch: &mut [u64],
+) -> bool
+    requires { ⌜ Headed bucket (now samples) (now octants) (length (now entries)) (length (now scratch)) ⌝ }
+    ensures { λ r. ⌜ (r ≡ true) ↔ (Holds bucket (length (now (entries .entry))) (now (samples .entry)) (now (octants .entry))) ⌝ }
+{
+    if !all_apart(samples, entries, scratch) {
+        return false;
+    }
+    if !fill(samples, entries) {
+        return false;
+    }
+    same_tables(samples, octants, bucket, entries, scratch)
+}
+
+// The checking call: whether the tables are those of some set. It reads the set off the sample table and compares every word.
+pub fn check(samples: &[u32], octants: &[u32]) -> bool
+    ensures { λ r. ⌜ CheckMeets (pair (now (samples .entry)) (now (octants .entry))) r ⌝ }
+{
+    if !long_enough(samples.len(), octants.len()) {
+        return false;
+    }
+    let bucket = bucket_of(samples);
+    if !bucket_fits(bucket) {
+        return false;
+    }
+    let n = count_of(samples) as usize;
+    if sample_rows(samples.len()) < n {
+        return false;
+    }
+    let mut entries = [0u64; 4096];
+    let mut scratch = [0u64; 4096];
+    hold(samples, octants, bucket, &mut entries[..n], &mut scratch)
+}
