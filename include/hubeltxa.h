@@ -2,13 +2,15 @@
  *
  * A code is a whole number from 0 to 65,535, and a colour is red, green and blue codes. A panel
  * colour is three 32-bit floats, red, green and blue. A sample is a tag, any 32-bit number, and a
- * colour. A sheet is a text of samples, described below.
+ * colour. A sheet is a text of samples, and a sample set stands in two tables of words; both are
+ * described below.
  *
  * A call that can refuse returns a number: 0 says that it accepted what it was given, any other why
- * it did not. hbx_name cannot refuse and returns nothing. All else comes back through pointers.
+ * it did not. hbx_name cannot refuse and returns nothing; hbx_check returns yes or no. All else
+ * comes back through pointers.
  *
- * Each pointer must point to an object of its type, or, where a length follows it, to that many
- * bytes. It must never be null, not even where the length is 0. What a call may write (all that is
+ * Each pointer must point to an object of its type, or, where a length follows it, to that many of
+ * them. It must never be null, not even where the length is 0. What a call may write (all that is
  * not const) must not overlap anything else that the call is given. The library does not test this.
  *
  * The library has no state, allocates nothing and keeps no pointer. Threads may call it at the same
@@ -85,6 +87,44 @@ uint32_t hbx_line(uint32_t tag, uint32_t red, uint32_t green, uint32_t blue,
  * the whole sheet.
  */
 void hbx_name(const uint8_t *sheet, size_t sheet_len, uint32_t tag, size_t *start, size_t *length);
+
+/* A sample set has samples, no two with one tag, and a bucket size from 1 to 256. It stands in two
+ * tables of 32-bit words that the caller lends; a length is in words:
+ *
+ *     samples   sample count; bucket size; then rows of 5, as the samples came in:
+ *               tag, red, green, blue, next
+ *     octants   octant count; then rows of 11:
+ *               first sample row, last sample row, sample count, child rows 0 to 7
+ *
+ * Every other word is 0. There are (samples_len - 2) / 5 sample rows, rounded down, 4,096 at most,
+ * and (octants_len - 1) / 11 octant rows, rounded down. Rows are counted from 0.
+ *
+ * Octant 0 is all colours. An octant is split exactly when it holds more samples than the bucket
+ * size and its side is over 1, into eight children of half its side. Child number = red bit + 2 *
+ * green bit + 4 * blue bit, a bit being 1 for the upper half. A child that holds no sample has no
+ * row, and its word is 0. An octant stands before its children, and child 0's whole subtree before
+ * child 1's. The order of the samples goes through the children of a split octant, 0 to 7, and
+ * through the samples of another as they came in: first and last row are by this order, and next is
+ * the row of the sample that follows in it, the sample count for the last.
+ *
+ * Tables are sound when they are exactly those of some set.
+ */
+
+/* Writes the tables of the empty set with this bucket size, whatever words they held.
+ *
+ * Returns 0 where they are written. Otherwise nothing is written, and the first of these that is so
+ * gives the number:
+ *    1  samples_len is under 2, or octants_len under 1
+ *    3  the bucket size is not from 1 to 256
+ */
+uint32_t hbx_clear(uint32_t *samples, size_t samples_len, uint32_t *octants, size_t octants_len,
+                   uint32_t bucket);
+
+/* Whether the tables are sound: 1 yes, 0 no. Every word is looked at. Tables that are too short are
+ * not sound. The call needs less than 80,000 bytes of stack.
+ */
+uint32_t hbx_check(const uint32_t *samples, size_t samples_len, const uint32_t *octants,
+                   size_t octants_len);
 
 #ifdef __cplusplus
 }

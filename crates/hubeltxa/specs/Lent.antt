@@ -1,6 +1,7 @@
 -- Records of document 01 from the flat numbers, floats and lent words of a C call.
-use Prim.Native.Nat.{ℕ}
+use Prim.Native.Nat.{ℕ, _≤_}
 use mathlib.Core.List.{List}
+use mathlib.Core.Path.{_≡_}
 use lib.Ieee.{Float}
 use Rattle.colour.specs.declared.Colour.{Colour}
 use Rattle.colour.specs.declared.PanelColour.{PanelColour}
@@ -8,6 +9,9 @@ use Rattle.colour.specs.declared.Sample.{Sample}
 use Rattle.colour.specs.Panel.{CodesAnswer, FloatsAnswer}
 use Rattle.sheet.specs.declared.lookup.Part.{Part}
 use Rattle.sheet.specs.Line.{WriteAnswer}
+use Rattle.model.specs.Layout.{current}
+use Rattle.model.specs.Tables.{Tables}
+use Rattle.model.specs.Sound.{Sound}
 
 -- A colour from three numbers, and a panel colour from three floats.
 abbrev pub colourOf : ℕ → ℕ → ℕ → Colour
@@ -34,3 +38,9 @@ lineLent n lent = record { number = n; lent = lent }
 -- A part of a sheet, by the two words that the call leaves.
 abbrev pub partLent : ℕ → ℕ → Part
 partLent start size = record { start = start; size = size }
+
+-- The checking call's answer as a number: 1 exactly where the tables are sound, and else 0.
+pub record CheckLent (t : Tables) (r : ℕ) : Type 0 where
+  pub yes-or-no : r ≤ 1
+  pub sound : r ≡ 1 → Sound current t
+  pub complete : Sound current t → r ≡ 1

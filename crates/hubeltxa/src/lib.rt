@@ -4,11 +4,15 @@ use colour::PanelColour;
 use colour::Sample;
 use colour::panel::Codes;
 use colour::panel::Floats;
+ghost use mathlib.Core.List.{[]};
 ghost use mathlib.Core.Path.{_≡_};
 ghost use Rattle.colour.specs.Panel.{floatsToCodes, codesToFloats};
 ghost use Rattle.sheet.specs.Line.{writeLine};
 ghost use Rattle.sheet.specs.Sheet.{namePart};
-ghost use Rattle.hubeltxa.specs.Lent.{colourOf, panelColourOf, sampleOf, codesLent, floatsLent, lineLent, partLent};
+ghost use Rattle.model.specs.Tables.{pair};
+ghost use Rattle.model.specs.Machine.{plain};
+ghost use Rattle.model.specs.Meets.{ClearMeets};
+ghost use Rattle.hubeltxa.specs.Lent.{colourOf, panelColourOf, sampleOf, codesLent, floatsLent, lineLent, partLent, CheckLent};
 
 // Floats to codes.
 #[no_mangle]
@@ -96,4 +100,28 @@ pub extern "C" fn hbx_name(sheet: &[u8], tag: u32, start: &mut usize, length: &m
     let part = sheet::lookup::name_part(sheet, tag);
     *start = part.start;
     *length = part.size;
+}
+
+// Empties the set and sets the bucket size.
+#[no_mangle]
+pub extern "C" fn hbx_clear(samples: &mut [u32], octants: &mut [u32], bucket: u32) -> u32
+    ensures { λ r. ⌜ ClearMeets (record { bucket = bucket }) (pair (now (samples .entry)) (now (octants .entry))) (plain r []) (pair (now (samples .exit)) (now (octants .exit))) ⌝ }
+{
+    samples::clear::clear(samples, octants, bucket)
+}
+
+// What the checking call says.
+const YES: u32 = 1;
+
+const NO: u32 = 0;
+
+// Whether the tables are those of some set.
+#[no_mangle]
+pub extern "C" fn hbx_check(samples: &[u32], octants: &[u32]) -> u32
+    ensures { λ r. ⌜ CheckLent (pair (now (samples .entry)) (now (octants .entry))) r ⌝ }
+{
+    if octree::tables::check(samples, octants) {
+        return YES;
+    }
+    NO
 }

@@ -1,0 +1,2 @@
+-- Laws on the calls that change a sample set.
+pub mod Cleared

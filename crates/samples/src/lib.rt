@@ -1,0 +1,2 @@
+// The calls that change a sample set: clear.
+pub mod clear;
