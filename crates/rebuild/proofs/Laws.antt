@@ -1,0 +1,2 @@
+-- Laws on rebuilding.
+pub mod Asked

@@ -1,0 +1,2 @@
+-- What a rebuild of both tables comes to.
+pub mod Rebuilding
