@@ -12,6 +12,22 @@
 //! blank is byte 32, a newline byte 10. A line is good when it is so formed and its tag and codes are
 //! in range; a header is good when it is so formed and the sheet is exactly as long as its count says.
 //!
+//! A *set* of samples stands in two *tables* of 32-bit words that the caller lends, with no tag twice
+//! and a *bucket size* from 1 to 256. The octant table is an octree of the colours: an octant is split
+//! exactly when it holds more samples than the bucket size and its side is over 1. The *order* goes
+//! through the children of a split octant, 0 to 7 (red bit + 2 * green bit + 4 * blue bit), and through
+//! the samples of another as they came in.
+//!
+//! - The sample table has the sample count, the bucket size, then rows of five words, as the samples
+//!   came in: tag, red, green, blue, next. Next is the row of the sample that follows in the order, the
+//!   count for the last. A table of n words has (n - 2) / 5 rows, 4,096 at most.
+//! - The octant table has the octant count, then rows of eleven words, an octant before its children and
+//!   child 0's whole subtree before child 1's: first sample row and last sample row in the order, sample
+//!   count, the rows of children 0 to 7, 0 where a child holds nothing. A table of n words has
+//!   (n - 1) / 11 rows.
+//!
+//! Every other word is 0. Tables are *sound* when they are exactly those of some set.
+//!
 //! A call that is refused gives `Err` with the number that says why. The functions have no state and
 //! may be called from any thread.
 //!
@@ -24,6 +40,10 @@
 //! sheet.resize(hubeltxa::HEADER_LENGTH + hubeltxa::LINE_LENGTH, 0);
 //! hubeltxa::write_line(7, codes, b"A001", &mut sheet[hubeltxa::HEADER_LENGTH..])?;
 //! assert_eq!(hubeltxa::name(&sheet, 7), b"A001");
+//!
+//! let (mut samples, mut octants) = ([0; 2 + 5 * 512], [0; 1 + 11 * 1_489]);
+//! hubeltxa::clear(&mut samples, &mut octants, 16)?;
+//! assert!(hubeltxa::check(&samples, &octants));
 //! # Ok::<(), u32>(())
 //! ```
 //!
@@ -81,6 +101,27 @@ pub mod raw {
         /// `sheet` must be good for reads of `sheet_len` bytes, and not null, not even where that is
         /// 0. The other pointers must be good for writes. No two of the three may overlap.
         pub fn hbx_name(sheet: *const u8, sheet_len: usize, tag: u32, start: *mut usize, length: *mut usize);
+
+        /// Writes the tables of the empty set; see [`clear`](crate::clear). A length is in words.
+        ///
+        /// # Safety
+        /// `samples` must be good for reads and writes of `samples_len` words and `octants` of
+        /// `octants_len`; the two may not overlap, and neither may be null, not even where its length
+        /// is 0.
+        pub fn hbx_clear(
+            samples: *mut u32,
+            samples_len: usize,
+            octants: *mut u32,
+            octants_len: usize,
+            bucket: u32,
+        ) -> u32;
+
+        /// 1 where the tables are sound, 0 where not; see [`check`](crate::check). A length is in words.
+        ///
+        /// # Safety
+        /// `samples` must be good for reads of `samples_len` words and `octants` of `octants_len`, and
+        /// neither may be null, not even where its length is 0.
+        pub fn hbx_check(samples: *const u32, samples_len: usize, octants: *const u32, octants_len: usize) -> u32;
     }
 }
 
@@ -179,4 +220,44 @@ pub fn name(sheet: &[u8], tag: u32) -> &[u8] {
     // SAFETY: the first pointer and length are a slice's; the other pointers are to two locals.
     unsafe { raw::hbx_name(sheet.as_ptr(), sheet.len(), tag, &mut start, &mut length) };
     &sheet[start..start + length]
+}
+
+/// Writes the tables of the empty set with this bucket size, whatever words they held.
+///
+/// # Errors
+/// The first of these that is so; nothing is written then:
+/// - 1 where `samples` has fewer than 2 words or `octants` none;
+/// - 3 where the bucket size is not from 1 to 256.
+///
+/// ```
+/// let (mut samples, mut octants) = ([9; 12], [9; 12]);
+/// assert_eq!(hubeltxa::clear(&mut samples, &mut octants, 257), Err(3));
+/// assert_eq!((samples, octants), ([9; 12], [9; 12]));
+///
+/// hubeltxa::clear(&mut samples, &mut octants, 256)?;
+/// assert_eq!((samples, octants), ([0, 256, 0, 0, 0, 0, 0, 0, 0, 0, 0, 0], [0; 12]));
+/// # Ok::<(), u32>(())
+/// ```
+pub fn clear(samples: &mut [u32], octants: &mut [u32], bucket: u32) -> Result<(), u32> {
+    // SAFETY: each pointer and length is a slice's, and both slices are borrowed alone.
+    let number =
+        unsafe { raw::hbx_clear(samples.as_mut_ptr(), samples.len(), octants.as_mut_ptr(), octants.len(), bucket) };
+    unless_refused(number, ())
+}
+
+/// Whether the tables are sound: every word of both is what the tables of some set have there. Tables
+/// that are too short are not. The call needs less than 80,000 bytes of stack.
+///
+/// ```
+/// // A set of one sample, tag 7, red 1, green 2, blue 3, with bucket size 16.
+/// let samples = [1, 16, 7, 1, 2, 3, 1];
+/// let mut octants = [1, 0, 0, 1, 0, 0, 0, 0, 0, 0, 0, 0];
+/// assert!(hubeltxa::check(&samples, &octants));
+///
+/// octants[3] = 2; // one sample too many
+/// assert!(!hubeltxa::check(&samples, &octants));
+/// ```
+pub fn check(samples: &[u32], octants: &[u32]) -> bool {
+    // SAFETY: each pointer and length is a slice's.
+    unsafe { raw::hbx_check(samples.as_ptr(), samples.len(), octants.as_ptr(), octants.len()) != 0 }
 }

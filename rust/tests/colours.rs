@@ -8,7 +8,10 @@
 #[rustfmt::skip]
 mod straight_scan;
 
+mod random;
+
 use hubeltxa::raw;
+use random::random;
 
 /// A call with its three arguments. Floats are given by their bits, so that a NaN's payload stays.
 #[derive(Clone, Copy, Debug)]
@@ -86,14 +89,6 @@ fn boundaries() -> Vec<u32> {
     let others = [0, 0x007F_FFFF, 0x7F7F_FFFF, 0x7F80_0000, 0x7F80_0001, 0x7FA0_0000, 0x7FA5_5A5A];
     let quiet = [0x7FBF_FFFF, 0x7FC0_0000, 0x7FC0_0001, 0x7FD5_5A5A, 0x7FFF_FFFF];
     powers.chain(others).chain(quiet).flat_map(|bits: u32| [bits, bits | 0x8000_0000]).collect()
-}
-
-/// splitmix64.
-fn random(state: &mut u64) -> u64 {
-    *state = state.wrapping_add(0x9E37_79B9_7F4A_7C15);
-    let z = (*state ^ (*state >> 30)).wrapping_mul(0xBF58_476D_1CE4_E5B9);
-    let z = (z ^ (z >> 27)).wrapping_mul(0x94D0_49BB_1331_11EB);
-    z ^ (z >> 31)
 }
 
 /// Every list of three of these.

@@ -7,7 +7,10 @@
 #[rustfmt::skip]
 mod straight_scan;
 
+mod random;
+
 use hubeltxa::{raw, HEADER_LENGTH as HEADER, LINE_LENGTH as LINE};
+use random::{any_of, below, random};
 use std::ops::Range;
 use straight_scan::Sample;
 
@@ -138,23 +141,6 @@ fn look_up(sheet: &[u8], tag: u32) -> &[u8] {
         Answer::Name(range) => &sheet[range],
         Answer::Line(..) => unreachable!(),
     }
-}
-
-/// xorshift64.
-fn random(state: &mut u64) -> u64 {
-    *state ^= *state << 13;
-    *state ^= *state >> 7;
-    *state ^= *state << 17;
-    *state
-}
-
-/// A number below n.
-fn below(n: usize, state: &mut u64) -> usize {
-    (random(state) >> 16) as usize % n
-}
-
-fn any_of<T: Copy>(list: &[T], state: &mut u64) -> T {
-    list[below(list.len(), state)]
 }
 
 /// 0, each power of ten and one less, each power of two and one less and one more, the greatest.

@@ -1,0 +1,551 @@
+//! Tables checked and cleared, compared with the straight scan call by call.
+//!
+//! `cargo test --release` takes a few seconds. The ignored tests change every word of larger tables and
+//! go through more sets: `make test-long`, or `cargo test --release --test tables -- --ignored`.
+
+#[path = "../../oracle/straight_scan.rs"]
+#[allow(dead_code)]
+#[rustfmt::skip]
+mod straight_scan;
+
+mod random;
+mod sets;
+
+use hubeltxa::raw;
+use random::*;
+use sets::*;
+use straight_scan::{Bin, Call, Sample};
+
+/// Two tables, for a message: the first words of each.
+fn shown(samples: &[u32], octants: &[u32]) -> String {
+    let words = |table: &[u32]| format!("{:?} of {} words", &table[..table.len().min(60)], table.len());
+    format!("{} and {}", words(samples), words(octants))
+}
+
+/// The one comparison of checks: every pair of tables goes through it. Gives the answer, for tests that
+/// look at it.
+fn check(samples: &[u32], octants: &[u32]) -> bool {
+    let expected = straight_scan::sound(samples, octants);
+    let (mut s, mut o) = (Lent::new(samples), Lent::new(octants));
+    let number = {
+        let (s, o) = (s.within(), o.within());
+        unsafe { raw::hbx_check(s.as_ptr(), s.len(), o.as_ptr(), o.len()) }
+    };
+    assert_eq!(number, expected as u32, "the library on {}", shown(samples, octants));
+    assert!(s.left() == Some(samples) && o.left() == Some(octants), "a check wrote on {}", shown(samples, octants));
+    assert_eq!(hubeltxa::check(samples, octants), expected, "the wrapper on {}", shown(samples, octants));
+    expected
+}
+
+/// The one comparison of clears: the number, and every word of both tables.
+fn clear(samples: &[u32], octants: &[u32], bucket: u32) -> u32 {
+    let (number, tables) = match straight_scan::start(samples.len(), octants.len(), bucket) {
+        Ok(bin) => (0, bin.tables()),
+        Err(number) => (number, (samples.to_vec(), octants.to_vec())),
+    };
+    let (mut s, mut o) = (Lent::new(samples), Lent::new(octants));
+    let given = {
+        let (s, o) = (s.within(), o.within());
+        unsafe { raw::hbx_clear(s.as_mut_ptr(), s.len(), o.as_mut_ptr(), o.len(), bucket) }
+    };
+    assert_eq!(given, number, "the library, bucket size {bucket}, on {}", shown(samples, octants));
+    let left = s.left() == Some(&tables.0) && o.left() == Some(&tables.1);
+    assert!(left, "the library's words, bucket size {bucket}, on {}", shown(samples, octants));
+    let (mut s, mut o) = (samples.to_vec(), octants.to_vec());
+    let given = hubeltxa::clear(&mut s, &mut o, bucket).err().unwrap_or(0);
+    assert_eq!((given, (s, o)), (number, tables), "the wrapper, bucket size {bucket}");
+    number
+}
+
+/// Checks a set's tables, which are sound.
+fn check_sound(bin: &Bin) {
+    let (samples, octants) = bin.tables();
+    assert!(check(&samples, &octants), "{} samples, bucket size {}", bin.samples.len(), bin.bucket);
+}
+
+/// Each of the sets with each bucket size, in tables just long enough.
+fn each(sets: Vec<Vec<Sample>>) -> impl Iterator<Item = Bin> {
+    sets.into_iter().flat_map(|samples| BUCKETS.map(|bucket| exact(&samples, bucket)))
+}
+
+/// Both tables as one list of words, that one place can name any of them.
+#[derive(Clone)]
+struct Both {
+    words: Vec<u32>,
+    samples: usize,
+}
+
+impl Both {
+    fn of(bin: &Bin) -> Self {
+        let (samples, octants) = bin.tables();
+        Both { words: [&samples[..], &octants[..]].concat(), samples: samples.len() }
+    }
+
+    fn check(&self) -> bool {
+        let (samples, octants) = self.words.split_at(self.samples);
+        check(samples, octants)
+    }
+
+    /// Checks with another word in one place.
+    fn check_with(&mut self, at: usize, word: u32) -> bool {
+        let held = std::mem::replace(&mut self.words[at], word);
+        let answer = self.check();
+        self.words[at] = held;
+        answer
+    }
+
+    /// Checks with the words of two parts exchanged.
+    fn check_swapped(&mut self, one: usize, other: usize, size: usize) {
+        let swap = |words: &mut [u32]| (0..size).for_each(|i| words.swap(one + i, other + i));
+        swap(&mut self.words);
+        self.check();
+        swap(&mut self.words);
+    }
+
+    /// Checks with each of the usual wrong words in one place: one up and one down, 0, the greatest, the
+    /// first number that is no code, the highest bit turned.
+    fn check_damaged(&mut self, at: usize) {
+        let word = self.words[at];
+        let (up, down) = (word.wrapping_add(1), word.wrapping_sub(1));
+        for wrong in [up, down, 0, u32::MAX, 65_536, word ^ 1 << 31] {
+            if wrong != word {
+                self.check_with(at, wrong);
+            }
+        }
+    }
+
+    /// Where each row of a table starts.
+    fn sample_rows(&self) -> Vec<usize> {
+        (0..self.words[0] as usize).map(|i| 2 + 5 * i).collect()
+    }
+
+    fn octant_rows(&self) -> Vec<usize> {
+        (0..self.words[self.samples] as usize).map(|i| self.samples + 1 + 11 * i).collect()
+    }
+}
+
+/// Every pair of two different ones.
+fn pairs(of: &[usize]) -> Vec<(usize, usize)> {
+    of.iter().enumerate().flat_map(|(i, &x)| of[..i].iter().map(move |&y| (y, x))).collect()
+}
+
+fn check_lengths(bin: &Bin) {
+    check_sound(bin);
+    for (samples, octants) in [(1, 0), (0, 1), (4, 10), (5, 11), (5 + 3, 11 + 7), (64, 64)] {
+        check_sound(&longer(bin, samples, octants));
+    }
+    let (samples, octants) = bin.tables();
+    assert!(!check(&samples, &octants[..octants.len() - 1]));
+    assert!(!check(&samples[..samples.len() - 1], &octants));
+}
+
+#[test]
+fn sound_tables() {
+    each(small_sets()).for_each(|bin| check_lengths(&bin));
+}
+
+#[test]
+fn sound_tables_of_large_sets() {
+    for bin in each(large_sets()) {
+        check_sound(&bin);
+        let more = longer(&bin, 5 + 3, 11 + 7);
+        check_sound(&more);
+        let (samples, octants) = bin.tables();
+        assert!(!check(&samples, &octants[..octants.len() - 1]));
+    }
+    // More rows than 4,096: those past them are no rows.
+    let bin = exact(&tagged(scattered(4_096, 31)), 16);
+    let mut both = Both::of(&longer(&bin, 5, 11));
+    assert!(both.check());
+    assert!(!both.check_with(0, 4_097));
+}
+
+#[test]
+fn longest_tables() {
+    for colours in [scattered(4_096, 32), close_pairs(4_096, 33)] {
+        for bucket in [1, 16] {
+            let tables = Bin {
+                sample_words: 2 + 5 * 4_096,
+                octant_words: 1 + 11 * 69_632,
+                ..exact(&tagged(colours.clone()), bucket)
+            };
+            check_sound(&tables);
+            let mut both = Both::of(&tables);
+            let last = both.words.len() - 1;
+            assert!(!both.check_with(last, 1));
+        }
+    }
+}
+
+/// Every bucket size, and those past either end.
+#[test]
+fn bucket_sizes() {
+    for samples in [small_sets()[9].clone(), tagged(scattered(300, 41)), tagged([[7; 3]; 258])] {
+        for bucket in 1..=256 {
+            check_sound(&exact(&samples, bucket));
+        }
+        let mut both = Both::of(&exact(&samples, 16));
+        for bucket in (0..=300).chain([512, 65_536, 1 << 31, u32::MAX]) {
+            both.check_with(1, bucket);
+        }
+        assert!(!both.check_with(1, 0));
+        assert!(!both.check_with(1, 257));
+    }
+    // All in the root whatever the bucket size, so that only its range counts.
+    let mut both = Both::of(&exact(&tagged([[5; 3]]), 16));
+    for bucket in 0..=300 {
+        assert_eq!(both.check_with(1, bucket), (1..=256).contains(&bucket));
+    }
+}
+
+#[test]
+fn every_word_changed() {
+    for bin in each(small_sets()).filter(|bin| bin.octant_words < 1_500) {
+        let mut both = Both::of(&longer(&bin, 5 + 3, 11 + 7));
+        (0..both.words.len()).for_each(|at| both.check_damaged(at));
+    }
+}
+
+fn change_some_words(bin: &Bin, step: usize) {
+    let mut both = Both::of(bin);
+    (0..both.words.len()).step_by(step).for_each(|at| both.check_damaged(at));
+}
+
+#[test]
+fn words_of_large_sets_changed() {
+    change_some_words(&exact(&tagged(scattered(300, 51)), 2), 101);
+    change_some_words(&exact(&tagged(clustered(1_000, 5, 300, 52)), 16), 211);
+    change_some_words(&exact(&tagged(scattered(4_096, 53)), 16), 1_009);
+    change_some_words(&exact(&tagged([[65_535; 3]; 4_096]), 256), 2_003);
+}
+
+/// A word that is not 0 in each place where 0 belongs: past the rows in use, and past the last row.
+#[test]
+fn zeros_broken() {
+    for bin in each(small_sets()) {
+        let more = longer(&bin, 2 * 5 + 3, 2 * 11 + 7);
+        let mut both = Both::of(&more);
+        let tails = (bin.sample_words..both.samples).chain(both.samples + bin.octant_words..both.words.len());
+        for at in tails {
+            for word in [1, 1 << 16, u32::MAX] {
+                assert!(!both.check_with(at, word));
+            }
+        }
+    }
+}
+
+#[test]
+fn tables_cut() {
+    for bin in each(small_sets()).filter(|bin| bin.sample_words + bin.octant_words < 400) {
+        let (samples, octants) = longer(&bin, 3, 3).tables();
+        (0..samples.len()).for_each(|n| _ = check(&samples[..n], &octants));
+        (0..octants.len()).for_each(|n| _ = check(&samples, &octants[..n]));
+    }
+    for bin in each(small_sets()).filter(|bin| bin.samples.len() < 4 && bin.octant_words < 50) {
+        let (samples, octants) = longer(&bin, 6, 3).tables();
+        for n in 0..=samples.len() {
+            (0..=octants.len()).for_each(|m| _ = check(&samples[..n], &octants[..m]));
+        }
+    }
+}
+
+/// Every table of a few words, each from a few numbers: those of 0, 1 and 2 words among them.
+#[test]
+fn tables_of_few_words() {
+    let lists = |length: u32| {
+        let few = [0, 1, 2, 256, 257, u32::MAX];
+        let list = move |k: usize| (0..length).map(|i| few[k / 6_usize.pow(i) % 6]).collect::<Vec<u32>>();
+        (0..6_usize.pow(length)).map(list)
+    };
+    let sound = |samples: &[u32], octants: &[u32]| {
+        let zeros = |words: &[u32]| words.iter().all(|&word| word == 0);
+        let header = samples.len() >= 2 && samples[0] == 0 && (1..=256).contains(&samples[1]);
+        header && zeros(&samples[2..]) && !octants.is_empty() && zeros(octants)
+    };
+    for samples in (0..=4).flat_map(lists) {
+        for octants in (0..=2).flat_map(lists) {
+            assert_eq!(check(&samples, &octants), sound(&samples, &octants));
+        }
+    }
+}
+
+#[test]
+fn counts_changed() {
+    for bin in each(small_sets()) {
+        let mut both = Both::of(&longer(&bin, 5, 11));
+        for at in [0, both.samples] {
+            let count = both.words[at];
+            for wrong in (0..count + 4).chain([4_095, 4_096, 4_097, 1 << 16, 1 << 31, u32::MAX - 1, u32::MAX]) {
+                both.check_with(at, wrong);
+            }
+            assert!(!both.check_with(at, u32::MAX));
+        }
+    }
+}
+
+#[test]
+fn rows_swapped() {
+    for bin in each(small_sets()).filter(|bin| bin.octant_words < 800) {
+        let mut both = Both::of(&bin);
+        let (samples, octants) = (both.sample_rows(), both.octant_rows());
+        for (one, other) in pairs(&samples) {
+            both.check_swapped(one, other, 5);
+            // The samples without their next words, and the next words alone.
+            both.check_swapped(one, other, 4);
+            both.check_swapped(one + 4, other + 4, 1);
+        }
+        for (one, other) in pairs(&octants).into_iter().step_by(3) {
+            both.check_swapped(one, other, 11);
+        }
+    }
+}
+
+#[test]
+fn children_swapped() {
+    for bin in each(small_sets()).filter(|bin| bin.octant_words < 800) {
+        let mut both = Both::of(&bin);
+        for row in both.octant_rows() {
+            let words: Vec<usize> = (row..row + 11).collect();
+            pairs(&words).into_iter().for_each(|(one, other)| both.check_swapped(one, other, 1));
+        }
+    }
+}
+
+/// Tables that are right but for two samples with one tag.
+#[test]
+fn equal_tags() {
+    let mut state = 61;
+    for bin in each(small_sets()).chain([exact(&tagged(scattered(4_096, 62)), 16)]) {
+        let n = bin.samples.len();
+        if n < 2 {
+            continue;
+        }
+        let some = (0..10).map(|_| (below(n, &mut state), below(n, &mut state)));
+        for (i, j) in [(0, 1), (0, n - 1), (n - 2, n - 1)].into_iter().chain(some) {
+            let mut same = bin.clone();
+            same.samples[i].tag = same.samples[j].tag;
+            let (samples, octants) = same.tables();
+            assert_eq!(check(&samples, &octants), i == j);
+        }
+    }
+}
+
+/// Tags that differ in one bit; tags in a row, from either end; and each of these with one tag given twice.
+#[test]
+fn tags_apart() {
+    let bits: Vec<u32> = (0..32).map(|k| 1 << k).chain([0]).collect();
+    let inverse: Vec<u32> = bits.iter().map(|tag| !tag).collect();
+    let rows: Vec<u32> = (0..600).collect();
+    let back: Vec<u32> = (0..600).map(|i| u32::MAX - i).collect();
+    let wide: Vec<u32> = (0..4_096).map(|i| i << 20 | i >> 6).collect();
+    let steps: Vec<u32> = (0..8).flat_map(|k| (0..8).map(move |i| i << (3 * k + 5) | 3)).collect();
+    for mut tags in [bits, inverse, rows, back, wide, steps] {
+        let table = |tags: &[u32]| {
+            let samples: Vec<Sample> = tags.iter().map(|&tag| Sample { tag, codes: [9; 3] }).collect();
+            exact(&samples, 256).tables()
+        };
+        tags.sort();
+        tags.dedup();
+        let (samples, octants) = table(&tags);
+        assert!(check(&samples, &octants));
+        let n = tags.len();
+        for (i, j) in [(0, 1), (n / 2, n - 1), (n - 1, 0), (n / 3, n / 3 + 1)] {
+            let mut twice = tags.clone();
+            twice[i] = twice[j];
+            let (samples, octants) = table(&twice);
+            assert!(!check(&samples, &octants));
+        }
+    }
+}
+
+/// Codes past the end in tables that are otherwise right: the root is not split, so no octant asks them.
+#[test]
+fn codes_past_the_end() {
+    for samples in small_sets().into_iter().filter(|samples| !samples.is_empty()) {
+        for (i, channel) in (0..samples.len()).flat_map(|i| [0, 1, 2].map(|h| (i, h))) {
+            for code in [65_535, 65_536, 65_537, 1 << 17, 1 << 31, u32::MAX] {
+                let mut bin = exact(&samples, 256);
+                bin.samples[i].codes[channel] = code;
+                let (samples, octants) = bin.tables();
+                assert_eq!(check(&samples, &octants), code == 65_535);
+            }
+        }
+    }
+}
+
+/// The tables of fewer samples with a row left where it was, or a word of it.
+#[test]
+fn rows_left() {
+    for bin in each(small_sets()).filter(|bin| !bin.samples.is_empty()) {
+        let n = bin.samples.len() - 1;
+        let (before, _) = bin.tables();
+        let fewer = Bin { samples: bin.samples[..n].to_vec(), ..bin };
+        check_sound(&fewer);
+        let (mut samples, octants) = fewer.tables();
+        let row = 2 + 5 * n..7 + 5 * n;
+        samples[row.clone()].copy_from_slice(&before[row.clone()]);
+        assert_eq!(check(&samples, &octants), before[row.clone()].iter().all(|&word| word == 0));
+        for at in row.clone() {
+            let (mut samples, _) = fewer.tables();
+            samples[at] = before[at];
+            assert_eq!(check(&samples, &octants), before[at] == 0);
+        }
+    }
+}
+
+/// The sample table of one set with the octant table of another: other bucket sizes, other sets, the same
+/// samples in another sequence.
+#[test]
+fn tables_mixed() {
+    let same_length = |bin: Bin| Bin { sample_words: 2 + 5 * 64, octant_words: 1 + 11 * 700, ..bin };
+    let tables: Vec<_> = each(small_sets()).map(|bin| same_length(bin).tables()).collect();
+    for (i, (samples, _)) in tables.iter().enumerate() {
+        for (_, octants) in tables.iter().skip(i % 5).step_by(5) {
+            check(samples, octants);
+        }
+    }
+    for bin in each(small_sets()) {
+        let mut turned = bin.clone();
+        turned.samples.reverse();
+        let ((samples, octants), (samples_turned, octants_turned)) = (bin.tables(), turned.tables());
+        check(&samples, &octants_turned);
+        check(&samples_turned, &octants);
+    }
+}
+
+/// A few edits at once to sound tables: words set, moved, copied and turned, rows copied.
+fn random_edits(tries: usize, mut state: u64) {
+    let state = &mut state;
+    let tables: Vec<Both> = each(small_sets()).map(|bin| Both::of(&longer(&bin, 5, 11))).collect();
+    for _ in 0..tries {
+        let mut both = tables[below(tables.len(), state)].clone();
+        for _ in 0..1 + below(3, state) {
+            let n = both.words.len();
+            let (at, from) = (below(n, state), below(n, state));
+            match below(6, state) {
+                0 => both.words[at] = random(state) as u32,
+                1 => both.words[at] = below(40, state) as u32,
+                2 => both.words[at] = both.words[from],
+                3 => both.words.swap(at, from),
+                4 => both.words[at] ^= 1 << below(32, state),
+                _ => {
+                    let size = any_of(&[2, 5, 11], state).min(n - at.max(from));
+                    both.words.copy_within(from..from + size, at);
+                }
+            }
+        }
+        both.check();
+    }
+}
+
+#[test]
+fn tables_edited() {
+    random_edits(40_000, 71);
+}
+
+/// Small numbers and random ones for words.
+fn any_words(length: usize, state: &mut u64) -> Vec<u32> {
+    let word = |state: &mut u64| match random(state) >> 62 {
+        0 => random(state) as u32,
+        1 => any_of(&[0, 1, 2, 16, 256, 257, 4_096, 65_535, 65_536, u32::MAX], state),
+        _ => below(4, state) as u32,
+    };
+    (0..length).map(|_| word(state)).collect()
+}
+
+#[test]
+fn random_words() {
+    let mut state = 81;
+    for _ in 0..200_000 {
+        let (n, m) = (below(40, &mut state), below(60, &mut state));
+        check(&any_words(n, &mut state), &any_words(m, &mut state));
+    }
+}
+
+/// Sets as adds and removes leave them, in tables that fill up.
+fn sequences(runs: usize, calls: usize, mut state: u64) {
+    let state = &mut state;
+    for _ in 0..runs {
+        let (rows, octants) = (1 + below(60, state), 1 + below(200, state));
+        let (more, further) = (below(7, state), below(13, state));
+        let bucket = any_of(&BUCKETS, state);
+        let mut bin = straight_scan::start(2 + 5 * rows + more, 1 + 11 * octants + further, bucket).unwrap();
+        let width = any_of(&[2, 300, 65_536], state);
+        for _ in 0..calls {
+            let tag = below(80, state) as u32;
+            let codes = [0; 3].map(|_: u32| below(width, state) as u32);
+            bin.call(&if below(4, state) == 0 { Call::Remove(tag) } else { Call::Add(tag, codes) });
+            check_sound(&bin);
+        }
+    }
+}
+
+#[test]
+fn call_sequences() {
+    sequences(60, 120, 91);
+}
+
+#[test]
+fn clears() {
+    let mut state = 101;
+    for n in 0..=24 {
+        for m in 0..=26 {
+            for bucket in [0, 1, 2, 3, 16, 255, 256, 257, 258, 1 << 16, 1 << 31, u32::MAX] {
+                let (samples, octants) = (any_words(n, &mut state), any_words(m, &mut state));
+                let number = clear(&samples, &octants, bucket);
+                let (short, bad) = (n < 2 || m < 1, !(1..=256).contains(&bucket));
+                assert_eq!(number, if short { 1 } else { 3 * bad as u32 });
+            }
+        }
+    }
+    for (n, m) in [(2 + 5 * 4_096, 1 + 11 * 69_632), (2 + 5 * 5_000, 2), (2, 1 + 11 * 500)] {
+        for bucket in [0, 1, 256, 257] {
+            clear(&any_words(n, &mut state), &any_words(m, &mut state), bucket);
+        }
+    }
+}
+
+/// Every bucket size, on tables that hold a set.
+#[test]
+fn sets_cleared() {
+    for bin in each(small_sets()) {
+        let (samples, octants) = longer(&bin, 3, 3).tables();
+        for bucket in (0..=3).chain(254..=258) {
+            clear(&samples, &octants, bucket);
+        }
+    }
+    let (samples, octants) = exact(&tagged(scattered(300, 102)), 2).tables();
+    (0..=300).for_each(|bucket| _ = clear(&samples, &octants, bucket));
+}
+
+/// Case h of document 01: tables that are one word too short for the tree.
+#[test]
+fn cases() {
+    let samples = tagged([[0; 3], [65_535; 3], [0; 3]]);
+    let bin = exact(&samples, 1);
+    assert_eq!(bin.octant_words, 199);
+    check_sound(&bin);
+    let (samples, octants) = bin.tables();
+    assert!(!check(&samples, &octants[..198]));
+}
+
+#[test]
+#[ignore = "long: every word of larger tables changed"]
+fn every_word_of_larger_sets_changed() {
+    change_some_words(&exact(&tagged(scattered(300, 51)), 2), 1);
+    change_some_words(&exact(&tagged(clustered(300, 3, 20, 54)), 1), 1);
+    change_some_words(&exact(&tagged(scattered(4_096, 53)), 16), 29);
+    change_some_words(&exact(&tagged(clustered(4_096, 2, 12, 55)), 256), 97);
+}
+
+#[test]
+#[ignore = "long: many edits of tables"]
+fn tables_edited_long() {
+    (0..20).for_each(|seed| random_edits(200_000, 1_000 + seed));
+}
+
+#[test]
+#[ignore = "long: many sequences of calls"]
+fn call_sequences_long() {
+    (0..20).for_each(|seed| sequences(200, 200, 2_000 + seed));
+}
