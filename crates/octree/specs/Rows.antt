@@ -19,12 +19,6 @@ sampleId Tag = 0
 sampleId (Code h) = bitWeight h
 sampleId Next = 5
 
-unfoldable pub octantId : OctantField → ℕ
-octantId First = 0
-octantId Last = 1
-octantId Count = 2
-octantId (Child k) = 3 + k
-
 -- The place of a field among the fields of a row.
 unfoldable pub place : {F : Type 0} → (F → ℕ) → F → List F → ℕ
 place id f [] = 0
@@ -65,10 +59,6 @@ samplesFrom L ws i (suc n) = sampleIn L ws i ∷ samplesFrom L ws (suc i) n
 -- The set of n samples that a sample table's rows say, with a bucket size.
 unfoldable pub setOf : Layout → List ℕ → ℕ → ℕ → SampleSet
 setOf L ws b n = record { settings = record { bucket = b }; samples = samplesFrom L ws 0 n }
-
--- The set that a sample table says.
-unfoldable pub setIn : Layout → List ℕ → SampleSet
-setIn L ws = setOf L ws (settingIn L ws Bucket) (countIn ws)
 
 -- A word of an octant row, from what the row says.
 unfoldable pub octantFieldOf : ℕ → ℕ → ℕ → List ℕ → OctantField → ℕ
