@@ -1,4 +1,2 @@
--- Where the words of the tables stand, and what the functions that write and compare them promise (document 01, "The tables").
-pub mod Rows
-pub mod Entries
+-- What the functions that write and compare tables promise (document 01, "The tables").
 pub mod Steps

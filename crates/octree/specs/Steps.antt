@@ -1,6 +1,6 @@
 -- What the functions under the calls ask and promise. No call's own promise cites these.
 use Prim.Native.Nat.{ℕ, _+_, _*_, _%_, _≤_, _<_, _^_}
-use mathlib.Core.Bool.{Bool, true, false, not, _&&_}
+use mathlib.Core.Bool.{Bool, true, false}
 use mathlib.Core.List.{List, [], _∷_, _++_, map}
 use mathlib.Core.Option.{Option, none, some}
 use mathlib.Core.Path.{_≡_}
@@ -9,27 +9,17 @@ use lib.ListN.{length, getD, take}
 use Rattle.colour.specs.declared.Sample.{Sample}
 use Rattle.colour.specs.Octant.{depths}
 use Rattle.colour.specs.Question.{Question, asks, firstNo}
-use Rattle.model.specs.Lists.{keep, total, padded}
+use Rattle.model.specs.Lists.{keep, padded}
 use Rattle.model.specs.SampleSet.{Placed, placedFrom, orderOf, octantsOf, octants}
 use Rattle.model.specs.Layout.{Bucket, Next, current, octantWidth, sampleRows, octantRows}
 use Rattle.model.specs.Tables.{nextRow, settingWord, sampleRowsOf, octantRowsOf, pair, tablesFor}
 use Rattle.model.specs.Sound.{distinct, codesInRange}
+use Rattle.words.specs.Rows.{sampleField, settingIn, countIn, samplesFrom, setOf}
+use Rattle.order.specs.Entries.{view, entriesOf}
 use Rattle.octree.specs.declared.rows.Compared.{Compared}
 use Rattle.octree.specs.declared.rows.Compared.the-variants as C
 use Rattle.octree.specs.declared.tables.Fit.{Fit}
 use Rattle.octree.specs.declared.tables.Fit.the-variants as F
-use Rattle.octree.specs.Rows.{sampleField, settingIn, countIn, samplesFrom, setOf}
-use Rattle.octree.specs.Entries.{withDigit, view, entriesOf}
-
--- The sizes of the eight parts of a partition.
-pub record Sizes (shift : ℕ) (es sizes : List ℕ) : Type 0 where
-  pub eight : length sizes ≡ 8
-  pub size : (k : ℕ) → k < 8 → getD sizes k 0 ≡ length (withDigit shift k es)
-
--- Where each part of a partition starts, from the sizes.
-pub record Starts (sizes starts : List ℕ) : Type 0 where
-  pub eight : length starts ≡ 8
-  pub start : (k : ℕ) → k < 8 → getD starts k 0 ≡ total (λ i. getD sizes i 0) k
 
 -- A whole list is ordered for a bucket size and a depth left.
 abbrev pub Ordered : ℕ → ℕ → List ℕ → Type 0
@@ -80,25 +70,6 @@ pub record RowsOnce (n : ℕ) (es : List ℕ) : Type 0 where
 -- The next words of n rows are those of the order in which the entries stand.
 abbrev pub NextsAre : ℕ → List ℕ → List ℕ → Type 0
 NextsAre n es ws = (i : ℕ) → i < n → sampleField current ws i Next ≡ nextRow n i (view es)
-
--- The tags of samples.
-unfoldable pub tagsOf : List Sample → List ℕ
-tagsOf xs = map (λ s. s .tag) xs
-
--- No number twice.
-unfoldable pub hasNumber : ℕ → List ℕ → Bool
-hasNumber x [] = false
-hasNumber x (y ∷ ys) = elim (eqb y x) [ true ↦ true | false ↦ hasNumber x ys ]
-
-unfoldable pub noTwice : List ℕ → Bool
-noTwice [] = true
-noTwice (x ∷ xs) = not (hasNumber x xs) && noTwice xs
-
--- Numbers below 2 ^ 33 that agree in their lowest bits.
-pub record Agree (bits : ℕ) (xs : List ℕ) : Type 0 where
-  pub low : ℕ
-  pub agree : (i : ℕ) → i < length xs → getD xs i 0 % 2 ^ bits ≡ low
-  pub below : (i : ℕ) → i < length xs → getD xs i 0 < 2 ^ 33
 
 -- Questions 6 and 7 for a list of samples, given by its entries: does each find a row, and would the tree fit the octant rows?
 unfoldable pub fitsRows : ℕ → List ℕ → ℕ → ℕ → List Question

@@ -1,10 +1,4 @@
-// The two tables: where their words stand, the order of a set's samples and the rows of its octree, and the checking call.
-pub mod entry;
-pub mod layout;
+// The two tables: the next words and the octant rows of ordered entries, whole tables, and the checking call.
 pub mod next;
-pub mod order;
-pub mod partition;
 pub mod rows;
 pub mod tables;
-pub mod tags;
-pub mod words;

@@ -1,14 +1,14 @@
 // The next words of the sample rows: each names the row that follows in the order.
-use crate::entry::row_of;
-use crate::layout::next;
-use crate::layout::put_next;
+use order::entry::row_of;
+use words::layout::next;
+use words::layout::put_next;
 ghost use Prim.Native.Nat.{_≤_, _<_};
 ghost use mathlib.Core.Bool.{true};
 ghost use mathlib.Core.Logic.{_↔_};
 ghost use mathlib.Core.Path.{_≡_};
 ghost use lib.ListN.{length};
 ghost use Rattle.model.specs.Layout.{current, sampleRows};
-ghost use Rattle.octree.specs.Rows.{samplesFrom};
+ghost use Rattle.words.specs.Rows.{samplesFrom};
 ghost use Rattle.octree.specs.Steps.{RowsOnce, NextsAre};
 
 // Writes the next words of ordered entries, from the last on: what follows a sample is known before it.

@@ -1,12 +1,12 @@
 // The octant rows of ordered entries: written, and compared with a table's.
-use crate::entry::row_of;
-use crate::layout::Octant;
-use crate::layout::octant_is;
-use crate::layout::octant_words;
-use crate::layout::put_octant;
-use crate::order::child_shift;
-use crate::order::splits;
-use crate::partition::sizes;
+use order::entry::row_of;
+use order::order::child_shift;
+use order::order::splits;
+use order::partition::sizes;
+use words::layout::Octant;
+use words::layout::octant_is;
+use words::layout::octant_words;
+use words::layout::put_octant;
 ghost use Prim.Native.Nat.{_+_, _*_, _≤_, _<_};
 ghost use mathlib.Core.List.{_++_};
 ghost use mathlib.Core.Path.{_≡_};
@@ -14,7 +14,7 @@ ghost use lib.ListN.{length, drop};
 ghost use Rattle.model.specs.SampleSet.{octantsOf};
 ghost use Rattle.model.specs.Layout.{current, octantWidth};
 ghost use Rattle.model.specs.Tables.{firstRow, lastRow};
-ghost use Rattle.octree.specs.Entries.{view};
+ghost use Rattle.order.specs.Entries.{view};
 ghost use Rattle.octree.specs.Steps.{Rooted, RowsTold, rowsOf, comparedAnswer, childWordOf, toldBy};
 
 // What comparing comes to: the octants that were found to be right, or that a row differs.

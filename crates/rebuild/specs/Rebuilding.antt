@@ -13,8 +13,8 @@ use Rattle.model.specs.SampleSet.{octants}
 use Rattle.model.specs.Layout.{current, sampleRows, octantRows}
 use Rattle.model.specs.Tables.{Tables, tablesFor}
 use Rattle.model.specs.Sound.{longEnough, codesInRange}
-use Rattle.octree.specs.Rows.{samplesFrom, setOf}
-use Rattle.octree.specs.Entries.{entriesOf}
+use Rattle.words.specs.Rows.{samplesFrom, setOf}
+use Rattle.order.specs.Entries.{entriesOf}
 
 -- Whether every sample has codes.
 unfoldable pub allFit : List Sample → Bool

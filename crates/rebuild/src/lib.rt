@@ -1,11 +1,11 @@
 // Both tables rebuilt from the samples in the first rows: what adding and loading will cost, to be measured and compared. Not in the header.
-use octree::entry::fill;
-use octree::layout::bucket_fits;
-use octree::layout::long_enough;
-use octree::layout::sample_rows;
 use octree::tables::Fit;
 use octree::tables::judge;
 use octree::tables::write;
+use order::entry::fill;
+use words::layout::bucket_fits;
+use words::layout::long_enough;
+use words::layout::sample_rows;
 ghost use lib.ListN.{length};
 ghost use Rattle.model.specs.Tables.{pair};
 ghost use Rattle.rebuild.specs.Rebuilding.{roomAsked, codesAsked, rebuildQuestions, Rebuilt, Space, Entered};

@@ -1,7 +1,7 @@
 // Clear: the tables of the empty set.
-use octree::layout::bucket_fits;
-use octree::layout::long_enough;
 use octree::tables::write;
+use words::layout::bucket_fits;
+use words::layout::long_enough;
 ghost use mathlib.Core.List.{[]};
 ghost use Rattle.model.specs.Tables.{pair};
 ghost use Rattle.model.specs.Machine.{plain};

@@ -15,13 +15,13 @@ use Rattle.model.specs.SampleSet.{Placed}
 use Rattle.model.specs.Tables.{nextRow, firstRow}
 use Rattle.model.proofs.Tables.Next.{next-in}
 use Rattle.model.proofs.Tree.Order.{count, atRow}
-use Rattle.octree.specs.Entries.{placedOf, view}
-use Rattle.octree.specs.Rows.{sampleAt, sampleField, sampleIn, samplesFrom}
+use Rattle.words.specs.Rows.{sampleAt, sampleField, sampleIn, samplesFrom}
+use Rattle.words.proofs.Laws.Answers.{says-yes, says-no}
+use Rattle.words.proofs.Laws.Layout.Places.{fieldPlace, sample-at, row-room}
+use Rattle.words.proofs.Laws.Layout.Samples.{same-sample, same-samples}
+use Rattle.order.specs.Entries.{placedOf, view}
+use Rattle.order.proofs.Laws.Entries.View.{view-at}
 use Rattle.octree.specs.Steps.{timesRow, RowsOnce, NextsAre}
-use Rattle.octree.proofs.Laws.Answers.{says-yes, says-no}
-use Rattle.octree.proofs.Laws.Entries.View.{view-at}
-use Rattle.octree.proofs.Laws.Layout.Places.{fieldPlace, sample-at, row-room}
-use Rattle.octree.proofs.Laws.Layout.Samples.{same-sample, same-samples}
 
 -- A next word that is set: it alone changes.
 module _ (ws : List ℕ) (i a : ℕ) where

@@ -1,4 +1,5 @@
 -- Whole tables: written, compared, read, checked.
+pub mod Tagless
 pub mod Padded
 pub mod Samples
 pub mod Octants

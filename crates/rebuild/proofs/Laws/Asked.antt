@@ -18,14 +18,14 @@ use Rattle.model.specs.SampleSet.{orderOf, octantsOf, octants}
 use Rattle.model.specs.Layout.{current, sampleRows, octantRows}
 use Rattle.model.specs.Tables.{Tables, pair, tablesFor}
 use Rattle.model.specs.Sound.{longEnough, codesInRange}
+use Rattle.words.specs.Rows.{samplesFrom, setOf}
+use Rattle.words.proofs.Laws.Layout.Places.{rows-few}
+use Rattle.words.proofs.Laws.Layout.Samples.{samples-length}
+use Rattle.order.specs.Entries.{entriesOf, view}
 use Rattle.octree.specs.declared.tables.Fit.{Fit}
 use Rattle.octree.specs.declared.tables.Fit.the-variants as F
-use Rattle.octree.specs.Rows.{samplesFrom, setOf}
-use Rattle.octree.specs.Entries.{entriesOf, view}
 use Rattle.octree.specs.Steps.{fitsRows, fitNumber, fitOctants, Judged, Writable}
-use Rattle.octree.proofs.Laws.Entries.Tagless.{entries-octants}
-use Rattle.octree.proofs.Laws.Layout.Places.{rows-few}
-use Rattle.octree.proofs.Laws.Layout.Samples.{samples-length}
+use Rattle.octree.proofs.Laws.Tables.Tagless.{entries-octants}
 use Rattle.octree.proofs.Laws.Tables.Check.{both-long}
 use Rattle.octree.proofs.tables.Fit.{the-type}
 use Rattle.rebuild.specs.Rebuilding.{allFit, roomAsked, codesAsked, rebuildQuestions, Rebuilt, Space, Entered}

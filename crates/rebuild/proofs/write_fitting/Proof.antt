@@ -2,7 +2,7 @@
 use borrow.Author.Needs.{needs}
 use native.Mathlib.Omega.{arith}
 use lib.ListN.{length}
-use Rattle.octree.proofs.Laws.Layout.Places.{rows-few}
+use Rattle.words.proofs.Laws.Layout.Places.{rows-few}
 use Rattle.octree.proofs.Laws.Tables.Judged.{unfit}
 use Rattle.rebuild.proofs.Laws.Asked.{no-room, fits-some, fit-to-write, with-room}
 use Rattle.rebuild.proofs.write_fitting.Statement.{statement}

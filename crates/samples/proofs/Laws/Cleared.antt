@@ -15,8 +15,8 @@ use Rattle.model.specs.Machine.{plain, tablesOf, clearQuestions, emptySet, star
 use Rattle.model.specs.Sound.{longEnough, codesInRange}
 use Rattle.model.specs.Meets.{ClearMeets, lent}
 use Rattle.model.proofs.Tree.Octants.{no-octants}
-use Rattle.octree.specs.Rows.{samplesFrom, setOf}
-use Rattle.octree.specs.Entries.{entriesOf, view}
+use Rattle.words.specs.Rows.{samplesFrom, setOf}
+use Rattle.order.specs.Entries.{entriesOf, view}
 use Rattle.octree.specs.Steps.{Writable}
 use Rattle.octree.proofs.Laws.Tables.Check.{both-long}
 

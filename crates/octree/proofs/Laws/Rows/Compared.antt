@@ -18,10 +18,10 @@ use Rattle.model.specs.Tables.{childRow, octantRow}
 use Rattle.model.proofs.Tables.Size.{octant-rows-length}
 use Rattle.model.proofs.Tables.Unique.{front-same}
 use Rattle.model.proofs.Tree.Splits.{octants-split, rows-split}
-use Rattle.octree.specs.Entries.{view}
-use Rattle.octree.specs.Rows.{octantRowBy}
+use Rattle.model.proofs.Joined.{part-in-front}
+use Rattle.words.specs.Rows.{octantRowBy}
+use Rattle.order.specs.Entries.{view}
 use Rattle.octree.specs.Steps.{rowsOf, Rooted, RowsTold, toldBy}
-use Rattle.octree.proofs.Laws.Joined.{part-in-front}
 use Rattle.octree.proofs.Laws.Rows.Octant.{Says, row-size, empty-is, own-room, leaf-is}
 use Rattle.octree.proofs.Laws.Rows.Passed.{childRows, child-words, child-rows-length, own-and-children, Opened, Passed, pass-view, pass-rows, pass-place, split-is}
 

@@ -18,10 +18,10 @@ use Rattle.model.proofs.Tables.Size.{octant-rows-length}
 use Rattle.model.proofs.Tree.Octants.{no-octants}
 use Rattle.model.proofs.Tree.Ordered.{ordered-parts}
 use Rattle.model.proofs.Tree.Splits.{split-deep, octants-leaf, octants-split, rows-leaf, word-leaf, some-row}
-use Rattle.octree.specs.Entries.{placedOf, view}
-use Rattle.octree.specs.Rows.{octantFieldOf, octantRowBy}
+use Rattle.words.specs.Rows.{octantFieldOf, octantRowBy}
+use Rattle.order.specs.Entries.{placedOf, view}
+use Rattle.order.proofs.Laws.Entries.View.{view-length}
 use Rattle.octree.specs.Steps.{rowsOf, Rooted, childWordOf}
-use Rattle.octree.proofs.Laws.Entries.View.{view-length}
 
 -- The first entry has the first row, and the last the last.
 pub first-entry : (es : List ℕ) → 1 ≤ length es → getD es 0 0 % 4096 ≡ firstRow 0 (view es)

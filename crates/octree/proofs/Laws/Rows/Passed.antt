@@ -17,12 +17,13 @@ use Rattle.model.specs.Tables.{octantRowsOf, childRow, rowOrNone}
 use Rattle.model.proofs.Lists.{total-same, joined-length, total-times}
 use Rattle.model.proofs.Tables.Size.{octant-rows-length}
 use Rattle.model.proofs.Tree.Splits.{split-deep, octants-split, rows-split, word-split, octants-within, child-within}
-use Rattle.octree.specs.Entries.{view, childShift}
-use Rattle.octree.specs.Rows.{octantRowBy}
-use Rattle.octree.specs.Steps.{rowsOf, Sizes, Rooted, childWordOf}
-use Rattle.octree.proofs.Laws.Entries.View.{view-length, view-take, view-drop}
-use Rattle.octree.proofs.Laws.Joined.{joined-slice, part-short}
-use Rattle.octree.proofs.Laws.Order.{child-size}
+use Rattle.model.proofs.Joined.{joined-slice, part-short}
+use Rattle.words.specs.Rows.{octantRowBy}
+use Rattle.order.specs.Entries.{view, childShift}
+use Rattle.order.specs.Steps.{Sizes}
+use Rattle.order.proofs.Laws.Entries.View.{view-length, view-take, view-drop}
+use Rattle.order.proofs.Laws.Order.{child-size}
+use Rattle.octree.specs.Steps.{rowsOf, Rooted, childWordOf}
 use Rattle.octree.proofs.Laws.Rows.Octant.{Says, child-word-is, ordered-children, said}
 
 -- The rows of child i and of the octants below it.

@@ -11,7 +11,7 @@ use Rattle.sheet.proofs.Laws.Parts.{part-tail, put-tail}
 use Rattle.model.specs.Layout.{current, octantWidth}
 use Rattle.model.specs.Lists.{joined, total}
 use Rattle.model.specs.SampleSet.{Placed, octantsOf, part}
-use Rattle.octree.specs.Entries.{view}
+use Rattle.order.specs.Entries.{view}
 use Rattle.octree.specs.Steps.{rowsOf}
 use Rattle.octree.proofs.Laws.Rows.Passed.{childRows, child-rows-length, Opened, Passed, pass-rows, pass-place, pass-room}
 

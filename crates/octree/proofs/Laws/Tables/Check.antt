@@ -17,12 +17,12 @@ use Rattle.model.specs.SampleSet.{SampleSet, octants}
 use Rattle.model.specs.Sound.{codesInRange, distinct, Shows, Sound, longEnough}
 use Rattle.model.specs.Tables.{sampleWords, pair, tablesFor, Tables}
 use Rattle.model.proofs.Tables.Numbers.{current-numbers}
-use Rattle.octree.specs.Entries.{entriesOf}
-use Rattle.octree.specs.Rows.{settingIn, countIn, samplesFrom, setOf}
-use Rattle.octree.specs.Steps.{Headed, SameTables, Holds, Listed}
 use Rattle.model.proofs.Tables.Unique as unique
-use Rattle.octree.proofs.Laws.Answers.{says-no, refuted}
-use Rattle.octree.proofs.Laws.Layout.Samples.{samples-length}
+use Rattle.words.specs.Rows.{settingIn, countIn, samplesFrom, setOf}
+use Rattle.words.proofs.Laws.Answers.{says-no, refuted}
+use Rattle.words.proofs.Laws.Layout.Samples.{samples-length}
+use Rattle.order.specs.Entries.{entriesOf}
+use Rattle.octree.specs.Steps.{Headed, SameTables, Holds, Listed}
 use Rattle.octree.proofs.Laws.Tables.Reading.{count-read, bucket-read, samples-read}
 
 -- The tags and the codes beside. Entries keep their number through the calls: n at first, then m, then those of es.

@@ -17,15 +17,15 @@ use Rattle.colour.proofs.Laws.Questions.{asked}
 use Rattle.model.specs.Layout.{current, Bucket, sampleRows, octantRows}
 use Rattle.model.specs.SampleSet.{orderOf, octantsOf, octants}
 use Rattle.model.specs.Tables.{pair, tablesFor, Tables}
-use Rattle.octree.specs.Entries.{view}
-use Rattle.octree.specs.Rows.{settingIn, samplesFrom, setOf}
+use Rattle.words.specs.Rows.{settingIn, samplesFrom, setOf}
+use Rattle.words.proofs.Laws.Answers.{says-no, refuted}
+use Rattle.words.proofs.Laws.Layout.Places.{rows-few}
+use Rattle.words.proofs.Laws.Layout.Samples.{samples-length}
+use Rattle.order.specs.Entries.{view}
 use Rattle.octree.specs.Steps.{Ordered, RowsOnce, sampleTableBy, octantTableBy, SameTables, Writable, Listed, fitsRows, fitNumber, fitOctants, Judged}
 use Rattle.octree.specs.declared.tables.Fit.{Fit}
 use Rattle.octree.specs.declared.tables.Fit.the-variants as F
-use Rattle.octree.proofs.Laws.Answers.{says-no, refuted}
-use Rattle.octree.proofs.Laws.Entries.Tagless.{entries-octants, InOrder, is-ordered, same-octants, sample-table, octant-table, rows-once}
-use Rattle.octree.proofs.Laws.Layout.Places.{rows-few}
-use Rattle.octree.proofs.Laws.Layout.Samples.{samples-length}
+use Rattle.octree.proofs.Laws.Tables.Tagless.{entries-octants, InOrder, is-ordered, same-octants, sample-table, octant-table, rows-once}
 use Rattle.octree.proofs.tables.Fit.{the-type}
 
 -- Questions 6 and 7 for a list of samples.

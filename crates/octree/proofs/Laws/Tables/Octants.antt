@@ -15,14 +15,14 @@ use Rattle.model.specs.Layout.{current, octantWidth, octantRows}
 use Rattle.model.specs.SampleSet.{octantsOf}
 use Rattle.model.proofs.Tables.Size.{octant-rows-length}
 use Rattle.model.proofs.Tree.Splits.{octants-fit}
-use Rattle.octree.specs.Entries.{view}
-use Rattle.octree.specs.Rows.{countIn, octantStart}
+use Rattle.words.specs.Rows.{countIn, octantStart}
+use Rattle.words.proofs.Laws.Answers.{says-no}
+use Rattle.words.proofs.Laws.Layout.Places.{octant-start, after-count, octants-first, octants-room}
+use Rattle.words.proofs.Laws.Words.{Zero}
+use Rattle.order.specs.Entries.{view}
+use Rattle.order.proofs.Laws.Entries.View.{view-length}
 use Rattle.octree.specs.Steps.{Ordered, rowsOf, octantTableBy, Rooted, RowsTold}
-use Rattle.octree.proofs.Laws.Answers.{says-no}
-use Rattle.octree.proofs.Laws.Entries.View.{view-length}
-use Rattle.octree.proofs.Laws.Layout.Places.{octant-start, after-count, octants-first, octants-room}
 use Rattle.octree.proofs.Laws.Tables.Padded.{ZeroFrom, named-padded, padded-named, zeroed-front, zeroed, zeroed-length, rest-zero}
-use Rattle.octree.proofs.Laws.Words.{Zero}
 
 -- The named words of an octant table.
 module _ (b : ℕ) (es : List ℕ) where

@@ -9,7 +9,7 @@ use lib.ListN.{length, take, drop, replicate, length-append, length-drop, take-a
 use lib.Seq.{take-at, length-take-le, drop-at}
 use Rattle.sheet.proofs.Laws.Parts.{part-tail, put-tail}
 use Rattle.model.specs.Lists.{padded}
-use Rattle.octree.proofs.Laws.Words.{Zero}
+use Rattle.words.proofs.Laws.Words.{Zero}
 
 -- The words from place k on are 0.
 abbrev pub ZeroFrom : ℕ → List ℕ → Type 0

@@ -10,9 +10,9 @@ use Rattle.model.specs.SampleSet.{placedFrom}
 use Rattle.model.specs.Layout.{current, sampleRows, octantRows}
 use Rattle.model.specs.Machine.{Machine, withSet, withSamples, fitQuestions}
 use Rattle.model.proofs.Tree.Order.{placed-length}
-use Rattle.octree.specs.Entries.{entryOf, entriesOf}
+use Rattle.order.specs.Entries.{entryOf, entriesOf}
 use Rattle.octree.specs.Steps.{fitsRows}
-use Rattle.octree.proofs.Laws.Entries.Tagless.{entries-octants}
+use Rattle.octree.proofs.Laws.Tables.Tagless.{entries-octants}
 
 pub same-questions : (m : Machine) (xs : List Sample) → length xs ≤ 4096
     → fitsRows (m .set .settings .bucket) (entriesOf xs) (m .sampleLength) (m .octantLength) ≡ fitQuestions m xs

@@ -13,7 +13,7 @@ use Rattle.colour.proofs.Laws.Channels.{code-by, same-codes}
 use Rattle.model.specs.Layout.{Tag, Code, current, Bucket, sampleHeader, sampleWidth}
 use Rattle.model.specs.SampleSet.{SampleSet, Placed, placedFrom, placed, order}
 use Rattle.model.specs.Tables.{settingWord, sampleWord, sampleRowsOf, sampleWords}
-use Rattle.octree.specs.Rows.{settingId, sampleId, place, sampleStart, sampleAt, sampleField, settingIn, countIn, sampleIn, samplesFrom}
+use Rattle.words.specs.Rows.{settingId, sampleId, place, sampleStart, sampleAt, sampleField, settingIn, countIn, sampleIn, samplesFrom}
 
 -- The words of a sample's row.
 abbrev pub rowWords : ℕ → List Placed → ℕ → Sample → List ℕ

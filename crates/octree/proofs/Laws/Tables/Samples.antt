@@ -16,14 +16,14 @@ use Rattle.model.proofs.Kept.{map-same}
 use Rattle.model.proofs.Tables.Size.{sample-rows-length}
 use Rattle.model.proofs.Tables.Unique.{back-same}
 use Rattle.model.proofs.Tree.Order.{placed-length}
-use Rattle.octree.specs.Entries.{view}
-use Rattle.octree.specs.Rows.{settingId, sampleId, place, sampleStart, sampleAt, sampleField, settingIn, countIn, samplesFrom}
+use Rattle.words.specs.Rows.{settingId, sampleId, place, sampleStart, sampleAt, sampleField, settingIn, countIn, samplesFrom}
+use Rattle.words.proofs.Laws.Answers.{refuted}
+use Rattle.words.proofs.Laws.Layout.Places.{sample-start, samples-end}
+use Rattle.words.proofs.Laws.Layout.Samples.{samples-length, rowsBy, rows-front, Follows, nexts-rows, rows-nexts, same-sample, same-samples}
+use Rattle.words.proofs.Laws.Words.{Zero}
+use Rattle.order.specs.Entries.{view}
 use Rattle.octree.specs.Steps.{sampleTableBy, NextsAre}
-use Rattle.octree.proofs.Laws.Answers.{refuted}
-use Rattle.octree.proofs.Laws.Layout.Places.{sample-start, samples-end}
-use Rattle.octree.proofs.Laws.Layout.Samples.{samples-length, rowsBy, rows-front, Follows, nexts-rows, rows-nexts, same-sample, same-samples}
 use Rattle.octree.proofs.Laws.Tables.Padded.{ZeroFrom, named-padded, padded-named, zeroed-front, zeroed, zeroed-length, rest-zero}
-use Rattle.octree.proofs.Laws.Words.{Zero}
 
 -- The words before the first row, and the named words of a sample table.
 abbrev header : ℕ → ℕ → List ℕ

@@ -3,7 +3,7 @@ use mathlib.Core.Path.{refl, sym, _∙_}
 use native.Mathlib.Omega.{arith}
 use borrow.Author.Needs.{needs}
 use lib.ListN.{length}
-use Rattle.octree.proofs.Laws.Layout.Places.{rows-few}
+use Rattle.words.proofs.Laws.Layout.Places.{rows-few}
 use Rattle.octree.proofs.Laws.Next.{NextsFrom, nexts-none, nexts-more, row-below, nexts-same, nexts-differ}
 use Rattle.octree.proofs.next.all_are.Statement.{statement}
 use Rattle.octree.proofs.next.all_are.Tie as tie

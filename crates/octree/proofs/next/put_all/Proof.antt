@@ -4,7 +4,7 @@ use native.Mathlib.Omega.{arith}
 use borrow.Author.Needs.{needs}
 use lib.ListN.{length}
 use Rattle.model.specs.Layout.{current, sampleRows}
-use Rattle.octree.proofs.Laws.Layout.Places.{rows-few}
+use Rattle.words.proofs.Laws.Layout.Places.{rows-few}
 use Rattle.octree.proofs.Laws.Next.{row-below, nexts-all, NextsPut, put-none, put-more, put-samples}
 use Rattle.octree.proofs.next.put_all.Statement.{statement}
 use Rattle.octree.proofs.next.put_all.Tie as tie

@@ -14,20 +14,20 @@ use Rattle.sheet.proofs.Laws.Parts.{part-tail}
 use Rattle.model.specs.Layout.{current, octantWidth}
 use Rattle.model.specs.SampleSet.{splits}
 use Rattle.model.proofs.Tree.Splits.{split-deep}
-use Rattle.octree.specs.Entries.{view}
-use Rattle.octree.specs.Rows.{octantRowBy}
-use Rattle.octree.proofs.Laws.Order.{splits-told}
+use Rattle.words.specs.Rows.{octantRowBy}
+use Rattle.words.proofs.layout.octant_words.Reads as octant-words
+use Rattle.words.proofs.layout.put_octant.Reads as put-octant
+use Rattle.order.specs.Entries.{view}
+use Rattle.order.proofs.Laws.Order.{splits-told}
+use Rattle.order.proofs.order.child_shift.Reads as child-shift
+use Rattle.order.proofs.order.splits.Reads as split-test
+use Rattle.order.proofs.partition.sizes.Reads as sizes
 use Rattle.octree.proofs.Laws.Rows.Octant.{Says, empty-is, own-room, leaf-is}
 use Rattle.octree.proofs.Laws.Rows.Passed.{Opened, opened, Passed, pass-begins, ChildBounds, pass-bounds, pass-rooted, pass-steps, split-is}
 use Rattle.octree.proofs.Laws.Rows.Written.{Written, written-begins, written-steps, written-ends}
 use Rattle.octree.proofs.rows.build.Reads as build
 use Rattle.octree.proofs.rows.build.Kinds as kinds
 use Rattle.octree.proofs.rows.+build.Lts-build as lts
-use Rattle.octree.proofs.layout.octant_words.Reads as octant-words
-use Rattle.octree.proofs.layout.put_octant.Reads as put-octant
-use Rattle.octree.proofs.order.child_shift.Reads as child-shift
-use Rattle.octree.proofs.order.splits.Reads as split-test
-use Rattle.octree.proofs.partition.sizes.Reads as sizes
 use Rattle.octree.proofs.rows.child_word.Reads as child-word
 use Rattle.octree.proofs.rows.octant_of.Reads as octant-of
 use Rattle.octree.proofs.rows.+build.{statement}

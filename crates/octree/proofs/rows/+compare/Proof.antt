@@ -12,20 +12,20 @@ use lib.ListN.{length, getD, take, drop, length-drop}
 use Rattle.sheet.proofs.Laws.Parts.{part-tail}
 use Rattle.model.specs.SampleSet.{octantsOf, splits}
 use Rattle.model.proofs.Tree.Splits.{split-deep}
-use Rattle.octree.specs.Entries.{view}
+use Rattle.words.proofs.layout.octant_is.Reads as octant-is
+use Rattle.words.proofs.layout.octant_words.Reads as octant-words
+use Rattle.order.specs.Entries.{view}
+use Rattle.order.proofs.Laws.Order.{splits-told}
+use Rattle.order.proofs.order.child_shift.Reads as child-shift
+use Rattle.order.proofs.order.splits.Reads as split-test
+use Rattle.order.proofs.partition.sizes.Reads as sizes
 use Rattle.octree.specs.Steps.{comparedAnswer}
-use Rattle.octree.proofs.Laws.Order.{splits-told}
 use Rattle.octree.proofs.Laws.Rows.Compared.{told-empty, Matched, matched-begins, matched-steps, told-different, told-ends, told-leaf}
 use Rattle.octree.proofs.Laws.Rows.Octant.{Says, own-room}
 use Rattle.octree.proofs.Laws.Rows.Passed.{Opened, opened, Passed, pass-begins, ChildBounds, pass-bounds, pass-rooted, pass-steps}
 use Rattle.octree.proofs.rows.compare.Reads as compare
 use Rattle.octree.proofs.rows.compare.Kinds as kinds
 use Rattle.octree.proofs.rows.+compare.Lts-compare as lts
-use Rattle.octree.proofs.layout.octant_is.Reads as octant-is
-use Rattle.octree.proofs.layout.octant_words.Reads as octant-words
-use Rattle.octree.proofs.order.child_shift.Reads as child-shift
-use Rattle.octree.proofs.order.splits.Reads as split-test
-use Rattle.octree.proofs.partition.sizes.Reads as sizes
 use Rattle.octree.proofs.rows.child_word.Reads as child-word
 use Rattle.octree.proofs.rows.octant_of.Reads as octant-of
 use Rattle.octree.proofs.rows.row_told.Reads as row-told

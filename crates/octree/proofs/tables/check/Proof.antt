@@ -8,7 +8,7 @@ use borrow.Author.Tests.{not-true, not-false}
 use lib.Dec.{leb}
 use lib.ListN.{length}
 use Rattle.model.specs.Sound.{longEnough}
-use Rattle.octree.proofs.Laws.Layout.Places.{rows-few}
+use Rattle.words.proofs.Laws.Layout.Places.{rows-few}
 use Rattle.octree.proofs.Laws.Tables.Check.{too-short, bucket-out, rows-over, both-long, header-right, checked, places-first, places-few}
 use Rattle.octree.proofs.tables.check.Statement.{statement}
 use Rattle.octree.proofs.tables.check.Tie as tie

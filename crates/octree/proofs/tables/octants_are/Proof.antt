@@ -3,8 +3,8 @@ use mathlib.Core.Path.{sym, ap, _∙_}
 use native.Mathlib.Omega.{arith}
 use borrow.Author.Needs.{needs}
 use Rattle.colour.specs.Octant.{depths}
+use Rattle.words.proofs.Laws.Layout.Places.{octants-first}
 use Rattle.octree.specs.Steps.{comparedAnswer}
-use Rattle.octree.proofs.Laws.Layout.Places.{octants-first}
 use Rattle.octree.proofs.Laws.Tables.Octants.{fitting, told-end, whole-rooted, count-other, rows-other, octants-tell}
 use Rattle.octree.proofs.tables.octants_are.Statement.{statement}
 use Rattle.octree.proofs.tables.octants_are.Tie as tie

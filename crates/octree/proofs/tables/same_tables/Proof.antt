@@ -4,7 +4,7 @@ use native.Mathlib.Omega.{arith}
 use borrow.Author.Needs.{needs}
 use borrow.Author.Tests.{not-false}
 use lib.ListN.{length}
-use Rattle.octree.proofs.Laws.Layout.Places.{rows-few}
+use Rattle.words.proofs.Laws.Layout.Places.{rows-few}
 use Rattle.octree.proofs.Laws.Tables.Judged.{unfit, not-fitting, judged-once, judged-few, judged-ordered, judged-octants, judged-room, samples-differ, tables-tell}
 use Rattle.octree.proofs.tables.same_tables.Statement.{statement}
 use Rattle.octree.proofs.tables.same_tables.Tie as tie

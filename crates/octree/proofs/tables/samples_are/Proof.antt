@@ -3,7 +3,7 @@ use mathlib.Core.Path.{refl}
 use native.Mathlib.Omega.{arith}
 use borrow.Author.Needs.{needs}
 use borrow.Author.Tests.{not-false}
-use Rattle.octree.proofs.Laws.Layout.Places.{samples-end}
+use Rattle.words.proofs.Laws.Layout.Places.{samples-end}
 use Rattle.octree.proofs.Laws.Tables.Samples.{nexts-other, rest-tells}
 use Rattle.octree.proofs.tables.samples_are.Statement.{statement}
 use Rattle.octree.proofs.tables.samples_are.Tie as tie

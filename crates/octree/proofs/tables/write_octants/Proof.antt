@@ -6,7 +6,7 @@ use borrow.Author.Needs.{needs}
 use borrow.Rule.Slice.PartMut.{same-len-mid}
 use lib.ListN.{length}
 use Rattle.colour.specs.Octant.{depths}
-use Rattle.octree.proofs.Laws.Layout.Places.{octants-first}
+use Rattle.words.proofs.Laws.Layout.Places.{octants-first}
 use Rattle.octree.proofs.Laws.Tables.Octants.{fitting, octants-end, whole-rooted, octants-written}
 use Rattle.octree.proofs.tables.write_octants.Statement.{statement}
 use Rattle.octree.proofs.tables.write_octants.Tie as tie

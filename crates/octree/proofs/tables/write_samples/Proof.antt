@@ -3,7 +3,7 @@ use mathlib.Core.Path.{refl}
 use native.Mathlib.Omega.{arith}
 use borrow.Author.Needs.{needs}
 use lib.ListN.{length}
-use Rattle.octree.proofs.Laws.Layout.Places.{samples-end}
+use Rattle.words.proofs.Laws.Layout.Places.{samples-end}
 use Rattle.octree.proofs.Laws.Tables.Samples.{samples-written}
 use Rattle.octree.proofs.tables.write_samples.Statement.{statement}
 use Rattle.octree.proofs.tables.write_samples.Tie as tie

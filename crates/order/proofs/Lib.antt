@@ -1,0 +1,2 @@
+-- Laws on entries, their partition and their order.
+pub mod Laws

@@ -1,0 +1,115 @@
+-- Where the words of the tables stand in the layout in use, and that rows lie within their table.
+use Prim.Native.Nat.{ℕ, suc, _+_, _-_, _*_, _/_, _≤_, _<_}
+use mathlib.Core.List.{List}
+use mathlib.Core.Path.{_≡_, refl, ap, _∙_}
+use native.Mathlib.Nat.{add-zero, mul-zero}
+use native.Mathlib.Omega.{arith}
+use lib.ListN.{getD}
+use Rattle.colour.specs.Colour.{Red, Green, Blue, colourBy}
+use Rattle.colour.specs.Octant.{bitWeight}
+use Rattle.model.specs.Layout.{SampleField, Tag, Code, Next, current, Bucket, sampleHeader, sampleWidth, octantHeader, octantWidth, sampleRows, octantRows}
+use Rattle.model.proofs.Tables.Numbers.{current-numbers}
+use Rattle.model.proofs.Tables.Size.{rows-within}
+use Rattle.words.specs.Rows.{settingId, sampleId, place, sampleStart, sampleAt, sampleField, settingIn, sampleIn, octantStart}
+
+-- A sample row starts after the header and the rows before it, and an octant row too.
+pub sample-start : (i : ℕ) → sampleStart current i ≡ 2 + 5 * i
+unfolding sampleStart sampleHeader sampleWidth current
+sample-start i = refl
+
+pub octant-start : (i : ℕ) → octantStart current i ≡ 1 + 11 * i
+unfolding octantStart octantHeader octantWidth current
+octant-start i = refl
+
+-- The octant rows stand after the count.
+pub after-count : (n : ℕ) → octantStart current n ≡ suc (octantWidth current * n)
+unfolding octantStart octantHeader
+after-count n = omega arith
+
+pub octants-first : octantStart current 0 ≡ 1
+octants-first = after-count 0 ∙ ap suc (mul-zero (octantWidth current))
+
+-- The place of a field in a sample row.
+unfoldable pub fieldPlace : SampleField → ℕ
+fieldPlace Tag = 0
+fieldPlace (Code Red) = 1
+fieldPlace (Code Green) = 2
+fieldPlace (Code Blue) = 3
+fieldPlace Next = 4
+
+place-is : (f : SampleField) → place sampleId f (current .sample) ≡ fieldPlace f
+unfolding place sampleId bitWeight current fieldPlace
+place-is Tag = refl
+place-is (Code Red) = refl
+place-is (Code Green) = refl
+place-is (Code Blue) = refl
+place-is Next = refl
+
+-- Field f of row i stands in this word.
+pub sample-at : (f : SampleField) (i : ℕ) → sampleAt current f i ≡ 2 + 5 * i + fieldPlace f
+unfolding sampleAt
+sample-at f i = rw (sample-start i, place-is f)
+
+-- The bucket size is word 1.
+pub bucket-in : (ws : List ℕ) → settingIn current ws Bucket ≡ getD ws 1 0
+unfolding settingIn place settingId current
+bucket-in ws = refl
+
+-- Sample rows that a table has lie within it, and octant rows.
+pub samples-room : (len n : ℕ) → sampleHeader current ≤ len → n ≤ sampleRows current len → sampleStart current n ≤ len
+samples-room len n h r =
+    let room : n ≤ (len - 2) / 5 = omega (arith, current-numbers .sample-rows len) in
+    omega (arith, sample-start n, current-numbers .sample-header, rows-within n (len - 2) 5 room)
+
+pub octants-room : (len n at : ℕ) → 1 ≤ len → n ≤ octantRows current len → at ≡ octantStart current n → at ≤ len
+octants-room len n at h k e =
+    let fits : n ≤ (len - 1) / octantWidth current =
+    omega (arith, current-numbers .octant-rows len, ap (λ (w : ℕ). (len - 1) / w) (current-numbers .octant-width)) in
+    omega (arith, after-count n, rows-within n (len - 1) (octantWidth current) fits)
+
+-- A table has at most 4,096 sample rows.
+pub rows-few : (len : ℕ) → sampleRows current len ≤ 4096
+rows-few len = omega (arith, current-numbers .sample-rows len)
+
+-- Row i lies within the table.
+pub row-room : (len i : ℕ) → i < sampleRows current len → (2 + 5 * i + 5 ≤ len) × (i < 4096)
+row-room len i r =
+    let room : suc i ≤ (len - 2) / 5 = omega (arith, current-numbers .sample-rows len) in
+    (omega (arith, rows-within (suc i) (len - 2) 5 room), omega (arith, current-numbers .sample-rows len))
+
+-- Where a row starts, there is room for its words.
+pub record RowAt (len i at : ℕ) : Type 0 where
+  pub few : i < 4096
+  pub small : at ≤ 20482
+  pub within : at + 5 ≤ len
+
+pub row-at : (len i at : ℕ) → i < sampleRows current len → at ≡ sampleStart current i → RowAt len i at
+row-at len i at r e =
+    let room = row-room len i r in
+    record { few = room .1; small = omega (arith, sample-start i); within = omega (arith, room, sample-start i) }
+
+-- A field and a sample, read from where the row starts.
+pub field-in : (f : SampleField) (ws : List ℕ) (i at : ℕ) → at ≡ sampleStart current i → getD ws (at + fieldPlace f) 0 ≡ sampleField current ws i f
+unfolding sampleField
+field-in f ws i at e = rw (e, sample-start i, sample-at f i)
+
+pub sample-in : (ws : List ℕ) (i at : ℕ) → at ≡ sampleStart current i
+    → record { tag = getD ws at 0; colour = record { red = getD ws (at + 1) 0; green = getD ws (at + 2) 0; blue = getD ws (at + 3) 0 } }
+    ≡ sampleIn current ws i
+unfolding sampleIn colourBy fieldPlace
+sample-in ws i at e =
+    rw (← field-in Tag ws i at e, ← field-in (Code Red) ws i at e, ← field-in (Code Green) ws i at e, ← field-in (Code Blue) ws i at e, add-zero at)
+
+-- Where the sample rows end.
+pub record SamplesEnd (len n at : ℕ) : Type 0 where
+  pub few : n ≤ 4096
+  pub small : at ≤ 20482
+  pub within : at ≤ len
+
+pub samples-end : (len n at : ℕ) → 2 ≤ len → n ≤ sampleRows current len → at ≡ sampleStart current n → SamplesEnd len n at
+samples-end len n at h k e =
+    record {
+      few = omega (arith, current-numbers .sample-rows len);
+      small = omega (arith, current-numbers .sample-rows len, sample-start n);
+      within = omega (arith, samples-room len n (omega (arith, current-numbers .sample-header)) k);
+    }

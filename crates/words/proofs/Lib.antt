@@ -1,0 +1,2 @@
+-- Laws on where the words of the tables stand.
+pub mod Laws

@@ -1,0 +1,2 @@
+-- Where the words of the tables stand (document 01, "The tables").
+pub mod Rows

@@ -1,0 +1,215 @@
+// Which word of the tables stands where. Nothing else knows an offset.
+use colour::Colour;
+use colour::Sample;
+ghost use Prim.Native.Nat.{_+_, _*_, _^_, _≤_, _<_};
+ghost use mathlib.Core.Bool.{true, _&&_};
+ghost use mathlib.Core.Logic.{_↔_};
+ghost use mathlib.Core.Path.{_≡_};
+ghost use lib.Dec.{leb};
+ghost use mathlib.Core.List.{_∷_, _++_};
+ghost use lib.ListN.{length, take, drop, set};
+ghost use Rattle.model.specs.Layout.{Bucket, Next, current, sampleHeader, octantHeader, sampleRows, octantRows, octantWidth};
+ghost use Rattle.words.specs.Rows.{sampleStart, octantStart, sampleAt, sampleField, settingIn, countIn, sampleIn, octantRowBy};
+
+// The words before the first row, and the words of a row.
+const SAMPLE_HEADER: usize = 2;
+
+const SAMPLE_WIDTH: usize = 5;
+
+const OCTANT_HEADER: usize = 1;
+
+const OCTANT_WIDTH: usize = 11;
+
+// The places in a sample row.
+const RED: usize = 1;
+
+const GREEN: usize = 2;
+
+const BLUE: usize = 3;
+
+const NEXT: usize = 4;
+
+// The places in an octant row: first sample row, last sample row, sample count, child rows.
+const LAST: usize = 1;
+
+const COUNT: usize = 2;
+
+const CHILD: usize = 3;
+
+// The most samples that a table holds, whatever its length.
+pub const MOST_SAMPLES: usize = 4096;
+
+// Whether both tables have their headers.
+pub fn long_enough(samples: usize, octants: usize) -> bool
+    ensures { λ r. ⌜ r ≡ (leb (sampleHeader current) samples && leb (octantHeader current) octants) ⌝ }
+{
+    SAMPLE_HEADER <= samples && OCTANT_HEADER <= octants
+}
+
+// Whether a bucket size is one: question 3.
+pub fn bucket_fits(bucket: u32) -> bool
+    ensures { λ r. ⌜ r ≡ (leb 1 bucket && leb bucket 256) ⌝ }
+{
+    1 <= bucket && bucket <= 256
+}
+
+// The sample rows of a table of that length.
+pub fn sample_rows(length: usize) -> usize
+    ensures is { λ r. ⌜ r ≡ sampleRows current length ⌝ }
+    ensures bounded { λ r. ⌜ r ≤ 4096 ⌝ }
+{
+    if length < SAMPLE_HEADER {
+        return 0;
+    }
+    let rows = (length - SAMPLE_HEADER) / SAMPLE_WIDTH;
+    if rows < MOST_SAMPLES {
+        return rows;
+    }
+    MOST_SAMPLES
+}
+
+// The octant rows of a table of that length.
+pub fn octant_rows(length: usize) -> usize
+    ensures { λ r. ⌜ r ≡ octantRows current length ⌝ }
+{
+    if length < OCTANT_HEADER {
+        return 0;
+    }
+    (length - OCTANT_HEADER) / OCTANT_WIDTH
+}
+
+// Where sample row i starts.
+pub fn sample_start(i: usize) -> usize
+    requires { ⌜ i ≤ 4096 ⌝ }
+    ensures { λ r. ⌜ r ≡ sampleStart current i ⌝ }
+{
+    SAMPLE_HEADER + SAMPLE_WIDTH * i
+}
+
+// The words of n octant rows.
+pub fn octant_words(n: u32) -> usize
+    ensures is { λ r. ⌜ r ≡ octantWidth current * n ⌝ }
+    ensures bounded { λ r. ⌜ r < 2 ^ 36 ⌝ }
+{
+    OCTANT_WIDTH * (n as usize)
+}
+
+// Where octant row i starts.
+pub fn octant_start(i: u32) -> usize
+    ensures { λ r. ⌜ r ≡ octantStart current i ⌝ }
+{
+    OCTANT_HEADER + octant_words(i)
+}
+
+// The sample count that a sample table says, or the octant count of an octant table.
+pub fn count(table: &[u32]) -> u32
+    requires { ⌜ 1 ≤ length (now table) ⌝ }
+    ensures { λ r. ⌜ r ≡ countIn (now (table .entry)) ⌝ }
+{
+    table[0]
+}
+
+// The bucket size that a sample table says.
+pub fn bucket(samples: &[u32]) -> u32
+    requires { ⌜ 2 ≤ length (now samples) ⌝ }
+    ensures { λ r. ⌜ r ≡ settingIn current (now (samples .entry)) Bucket ⌝ }
+{
+    samples[1]
+}
+
+// The sample in row i.
+pub fn sample(samples: &[u32], i: usize) -> Sample
+    requires { ⌜ i < sampleRows current (length (now samples)) ⌝ }
+    ensures { λ r. ⌜ r ≡ sampleIn current (now (samples .entry)) i ⌝ }
+{
+    let at = sample_start(i);
+    Sample {
+        tag: samples[at],
+        colour: Colour {
+            red: samples[at + RED],
+            green: samples[at + GREEN],
+            blue: samples[at + BLUE],
+        },
+    }
+}
+
+// The next word of row i.
+pub fn next(samples: &[u32], i: usize) -> u32
+    requires { ⌜ i < sampleRows current (length (now samples)) ⌝ }
+    ensures { λ r. ⌜ r ≡ sampleField current (now (samples .entry)) i Next ⌝ }
+{
+    let at = sample_start(i);
+    samples[at + NEXT]
+}
+
+// Sets the next word of row i.
+pub fn put_next(samples: &mut [u32], i: usize, next: u32)
+    requires { ⌜ i < sampleRows current (length (now samples)) ⌝ }
+    ensures { λ _. ⌜ now (samples .exit) ≡ set (now (samples .entry)) (sampleAt current Next i) next ⌝ }
+{
+    let at = sample_start(i);
+    samples[at + NEXT] = next;
+}
+
+// Sets the words before the first sample row: the count and the settings.
+pub fn put_header(samples: &mut [u32], count: u32, bucket: u32)
+    requires { ⌜ 2 ≤ length (now samples) ⌝ }
+    ensures { λ _. ⌜ now (samples .exit) ≡ count ∷ bucket ∷ drop 2 (now (samples .entry)) ⌝ }
+{
+    samples[0] = count;
+    samples[1] = bucket;
+}
+
+// Sets the word before the first octant row.
+pub fn put_count(octants: &mut [u32], count: u32)
+    requires { ⌜ 1 ≤ length (now octants) ⌝ }
+    ensures { λ _. ⌜ now (octants .exit) ≡ count ∷ drop 1 (now (octants .entry)) ⌝ }
+{
+    octants[0] = count;
+}
+
+// What an octant row says besides its children.
+pub struct Octant {
+    pub first: u32,
+    pub last: u32,
+    pub count: u32,
+}
+
+// Writes an octant's row at the front of the rows lent.
+pub fn put_octant(rows: &mut [u32], octant: Octant, children: &[u32; 8])
+    requires { ⌜ octantWidth current ≤ length (now rows) ⌝ }
+    ensures { λ _. ⌜ now (rows .exit) ≡ octantRowBy current (octant .first) (octant .last) (octant .count) (now (children .entry)) ++ drop (octantWidth current) (now (rows .entry)) ⌝ }
+{
+    rows[0] = octant.first;
+    rows[LAST] = octant.last;
+    rows[COUNT] = octant.count;
+    let mut k = 0;
+    while k < 8 {
+        rows[CHILD + k] = children[k];
+        k += 1;
+    }
+}
+
+// Whether the row at the front of the rows lent is that octant's.
+pub fn octant_is(rows: &[u32], octant: Octant, children: &[u32; 8]) -> bool
+    requires { ⌜ octantWidth current ≤ length (now rows) ⌝ }
+    ensures { λ r. ⌜ (r ≡ true) ↔ (take (octantWidth current) (now (rows .entry)) ≡ octantRowBy current (octant .first) (octant .last) (octant .count) (now (children .entry))) ⌝ }
+{
+    if rows[0] != octant.first {
+        return false;
+    }
+    if rows[LAST] != octant.last {
+        return false;
+    }
+    if rows[COUNT] != octant.count {
+        return false;
+    }
+    let mut k = 0;
+    while k < 8 {
+        if rows[CHILD + k] != children[k] {
+            return false;
+        }
+        k += 1;
+    }
+    true
+}
