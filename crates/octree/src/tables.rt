@@ -5,8 +5,10 @@ use crate::rows::Compared;
 use crate::rows::build;
 use crate::rows::compare;
 use order::entry::fill;
+use order::order::DEPTHS;
 use order::order::order;
 use order::tags::all_apart;
+use words::layout::MOST_SAMPLES;
 use words::layout::bucket as bucket_of;
 use words::layout::bucket_fits;
 use words::layout::count as count_of;
@@ -54,7 +56,7 @@ pub fn judge(
     if sample_rows(samples) < entries.len() {
         return Fit::NoRow;
     }
-    let found = order(entries, scratch, bucket as usize, 16);
+    let found = order(entries, scratch, bucket as usize, DEPTHS);
     if octant_rows(octants) < (found as usize) {
         return Fit::NoOctants;
     }
@@ -79,7 +81,7 @@ fn write_octants(octants: &mut [u32], bucket: u32, ordered: &[u64])
     ensures { λ _. ⌜ now (octants .exit) ≡ octantTableBy (length (now (octants .entry))) bucket (now (ordered .entry)) ⌝ }
 {
     let start = octant_start(0);
-    let used = build(ordered, bucket as usize, 16, 0, &mut octants[start..]);
+    let used = build(ordered, bucket as usize, DEPTHS, 0, &mut octants[start..]);
     put_count(octants, used);
     let from = octant_start(used);
     clear(&mut octants[from..]);
@@ -115,7 +117,8 @@ fn octants_are(octants: &[u32], bucket: u32, count: u32, ordered: &[u64]) -> boo
         return false;
     }
     let start = octant_start(0);
-    let Compared::Same(used) = compare(ordered, bucket as usize, 16, 0, &octants[start..]) else {
+    let Compared::Same(used) = compare(ordered, bucket as usize, DEPTHS, 0, &octants[start..])
+    else {
         return false;
     };
     let from = octant_start(used);
@@ -177,7 +180,7 @@ pub fn check(samples: &[u32], octants: &[u32]) -> bool
     if sample_rows(samples.len()) < n {
         return false;
     }
-    let mut entries = [0u64; 4096];
-    let mut scratch = [0u64; 4096];
+    let mut entries = [0u64; MOST_SAMPLES];
+    let mut scratch = [0u64; MOST_SAMPLES];
     hold(samples, octants, bucket, &mut entries[..n], &mut scratch)
 }

@@ -3,6 +3,7 @@ use octree::tables::Fit;
 use octree::tables::judge;
 use octree::tables::write;
 use order::entry::fill;
+use words::layout::MOST_SAMPLES;
 use words::layout::bucket_fits;
 use words::layout::long_enough;
 use words::layout::sample_rows;
@@ -64,7 +65,7 @@ pub extern "C" fn hbx_rebuild(
     if sample_rows(samples.len()) < n {
         return 6;
     }
-    let mut entries = [0u64; 4096];
-    let mut scratch = [0u64; 4096];
+    let mut entries = [0u64; MOST_SAMPLES];
+    let mut scratch = [0u64; MOST_SAMPLES];
     rebuild_rows(samples, octants, bucket, &mut entries[..n], &mut scratch)
 }

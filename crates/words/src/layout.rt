@@ -154,7 +154,7 @@ pub fn put_next(samples: &mut [u32], i: usize, next: u32)
 // Sets the words before the first sample row: the count and the settings.
 pub fn put_header(samples: &mut [u32], count: u32, bucket: u32)
     requires { ⌜ 2 ≤ length (now samples) ⌝ }
-    ensures { λ _. ⌜ now (samples .exit) ≡ count ∷ bucket ∷ drop 2 (now (samples .entry)) ⌝ }
+    ensures { λ _. ⌜ now (samples .exit) ≡ count ∷ bucket ∷ drop (sampleHeader current) (now (samples .entry)) ⌝ }
 {
     samples[0] = count;
     samples[1] = bucket;
@@ -163,7 +163,7 @@ pub fn put_header(samples: &mut [u32], count: u32, bucket: u32)
 // Sets the word before the first octant row.
 pub fn put_count(octants: &mut [u32], count: u32)
     requires { ⌜ 1 ≤ length (now octants) ⌝ }
-    ensures { λ _. ⌜ now (octants .exit) ≡ count ∷ drop 1 (now (octants .entry)) ⌝ }
+    ensures { λ _. ⌜ now (octants .exit) ≡ count ∷ drop (octantHeader current) (now (octants .entry)) ⌝ }
 {
     octants[0] = count;
 }

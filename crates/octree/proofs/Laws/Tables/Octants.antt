@@ -11,7 +11,7 @@ use lib.ListN.{length, getD, take, drop, replicate, length-drop}
 use lib.Seq.{take-at, length-take-le, drop-at}
 use Rattle.colour.specs.Octant.{depths}
 use Rattle.sheet.proofs.Laws.Parts.{part-tail, put-tail}
-use Rattle.model.specs.Layout.{current, octantWidth, octantRows}
+use Rattle.model.specs.Layout.{current, octantHeader, octantWidth, octantRows}
 use Rattle.model.specs.SampleSet.{octantsOf}
 use Rattle.model.proofs.Tables.Size.{octant-rows-length}
 use Rattle.model.proofs.Tree.Splits.{octants-fit}
@@ -147,7 +147,7 @@ module _ {b : ℕ} {es os : List ℕ} {n : ℕ} (fits : Fitting b es os n) where
 -- The octant table that is written: rows, count, zeros.
 module _ {b : ℕ} {es os₀ : List ℕ} {used : ℕ} (fits : Fitting b es os₀ used) {start : ℕ} (at : start ≡ octantStart current 0) (rows : List ℕ)
     (built : rows ≡ rowsOf b depths 0 es ++ drop (octantWidth current * used) (take (length os₀ - start) (drop start os₀))) {os₂ : List ℕ}
-    (headed-by : os₂ ≡ used ∷ drop 1 (putMid start (length os₀ - start) os₀ rows)) (whole : length os₂ ≡ length os₀) where
+    (headed-by : os₂ ≡ used ∷ drop (octantHeader current) (putMid start (length os₀ - start) os₀ rows)) (whole : length os₂ ≡ length os₀) where
   rows-put : drop 1 (putMid start (length os₀ - start) os₀ rows) ≡ rows
   rows-put =
       ap (drop 1) (put-tail start os₀ rows)
@@ -155,6 +155,7 @@ module _ {b : ℕ} {es os₀ : List ℕ} {used : ℕ} (fits : Fitting b es os₀
       ∙ drop-at (take 1 os₀) rows 1 (length-take-le 1 os₀ (fits .header))
 
   octants-headed : take (octantStart current used) os₂ ≡ namedOctants b es
+  unfolding octantHeader
   octants-headed =
       let w : ℕ = octantWidth current in
       ap₂ (λ (k : ℕ) (l : List ℕ). take k l) (after-count used) headed-by

@@ -134,10 +134,10 @@ module _ (ws₀ ws₁ : List ℕ) (ordered : List Placed) (n b : ℕ) (words : 2
       nexts-named (n ∷ b ∷ drop 2 ws₁) ordered n (omega (arith, headed-length, within)) refl (λ i h. header-fields n b ws₁ i Next ∙ nexts i h)
       ∙ ap (namedSamples b ordered) (header-samples n b ws₁ n ∙ samples)
 
-  pub samples-written : {ws₂ zeros : List ℕ} {k : ℕ} → ws₂ ≡ n ∷ b ∷ drop 2 ws₁ → k ≡ sampleStart current n
+  pub samples-written : {ws₂ zeros : List ℕ} {k : ℕ} → ws₂ ≡ n ∷ b ∷ drop (sampleHeader current) ws₁ → k ≡ sampleStart current n
       → zeros ≡ replicate (length (take (length ws₂ - k) (drop k ws₂))) 0
       → putMid k (length ws₂ - k) ws₂ zeros ≡ sampleTableBy (length ws₀) b ordered (samplesFrom current ws₀ 0 n)
-  unfolding sampleTableBy
+  unfolding sampleTableBy sampleHeader current
   samples-written {ws₂} {zeros} {k} e a z =
       let whole : length ws₂ ≡ length ws₀ = ap length e ∙ headed-length in
       let fits : k ≤ length ws₂ = omega (arith, whole, a, within) in

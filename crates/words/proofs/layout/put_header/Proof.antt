@@ -2,6 +2,7 @@
 use mathlib.Core.List.{[], _∷_}
 use borrow.Author.Needs.{needs}
 use lib.Seq.{sets-eq}
+use Rattle.model.specs.Layout.{current, sampleHeader}
 use Rattle.words.proofs.layout.put_header.Statement.{statement}
 use Rattle.words.proofs.layout.put_header.Tie as tie
 
@@ -15,6 +16,7 @@ same-length : tie.Need-same-length
 same-length c = search needs
 
 returns : tie.Need-returns
+unfolding sampleHeader current
 returns c = sets-eq (c .args .count ∷ c .args .bucket ∷ []) (c .args .samples .now) 0 (c .pre)
 
 pub put-header-spec : {M : Type 1} → statement M

@@ -1,4 +1,4 @@
--- `words::are_zero`: the bits of the words that were passed are gathered.
+-- `zeros::are_zero`: the bits of the words that were passed are gathered.
 use Prim.Native.Nat.{_-_, _≤_}
 use mathlib.Core.Path.{refl}
 use native.Mathlib.Omega.{arith}

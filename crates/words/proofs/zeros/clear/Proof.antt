@@ -1,4 +1,4 @@
--- `words::clear`: what was passed is 0.
+-- `zeros::clear`: what was passed is 0.
 use Prim.Native.Nat.{_-_, _≤_}
 use mathlib.Core.List.{_++_}
 use mathlib.Core.Path.{_≡_, refl, _∙_}
