@@ -10,8 +10,8 @@ ghost use Rattle.colour.specs.Panel.{floatsToCodes, codesToFloats};
 ghost use Rattle.sheet.specs.Line.{writeLine};
 ghost use Rattle.sheet.specs.Sheet.{namePart};
 ghost use Rattle.model.specs.Tables.{pair};
-ghost use Rattle.model.specs.Machine.{plain};
-ghost use Rattle.model.specs.Meets.{ClearMeets};
+ghost use Rattle.model.specs.Machine.{Clear, Add, Remove, Load, plain, loadAnswer};
+ghost use Rattle.model.specs.Meets.{Meets};
 ghost use Rattle.hubeltxa.specs.Lent.{colourOf, panelColourOf, sampleOf, codesLent, floatsLent, lineLent, partLent, CheckLent};
 
 // Floats to codes.
@@ -72,6 +72,16 @@ pub extern "C" fn hbx_floats(
     }
 }
 
+// A sample from four numbers.
+fn sample_of(tag: u32, red: u32, green: u32, blue: u32) -> Sample
+    ensures { λ r. ⌜ r ≡ sampleOf tag red green blue ⌝ }
+{
+    Sample {
+        tag,
+        colour: Colour { red, green, blue },
+    }
+}
+
 // Writes a sheet's line.
 #[no_mangle]
 pub extern "C" fn hbx_line(
@@ -85,10 +95,7 @@ pub extern "C" fn hbx_line(
     ensures { λ r. ⌜ lineLent r (now (line .exit))
         ≡ writeLine (sampleOf tag red green blue) (now (name .entry)) (now (line .entry)) ⌝ }
 {
-    let sample = Sample {
-        tag,
-        colour: Colour { red, green, blue },
-    };
+    let sample = sample_of(tag, red, green, blue);
     sheet::writer::number_of(sheet::writer::write_line(sample, name, line))
 }
 
@@ -105,9 +112,48 @@ pub extern "C" fn hbx_name(sheet: &[u8], tag: u32, start: &mut usize, length: &m
 // Empties the set and sets the bucket size.
 #[no_mangle]
 pub extern "C" fn hbx_clear(samples: &mut [u32], octants: &mut [u32], bucket: u32) -> u32
-    ensures { λ r. ⌜ ClearMeets (record { bucket = bucket }) (pair (now (samples .entry)) (now (octants .entry))) (plain r []) (pair (now (samples .exit)) (now (octants .exit))) ⌝ }
+    ensures { λ r. ⌜ Meets (Clear (record { bucket = bucket })) (pair (now (samples .entry)) (now (octants .entry))) (plain r []) (pair (now (samples .exit)) (now (octants .exit))) ⌝ }
 {
-    samples::clear::clear(samples, octants, bucket)
+    samples::answers::number_of(samples::clear::clear(samples, octants, bucket))
+}
+
+// Adds a sample.
+#[no_mangle]
+pub extern "C" fn hbx_add(
+    samples: &mut [u32],
+    octants: &mut [u32],
+    tag: u32,
+    red: u32,
+    green: u32,
+    blue: u32,
+) -> u32
+    ensures { λ r. ⌜ Meets (Add (sampleOf tag red green blue)) (pair (now (samples .entry)) (now (octants .entry))) (plain r []) (pair (now (samples .exit)) (now (octants .exit))) ⌝ }
+{
+    let sample = sample_of(tag, red, green, blue);
+    samples::answers::number_of(samples::add::add(samples, octants, sample))
+}
+
+// Removes the sample with a tag.
+#[no_mangle]
+pub extern "C" fn hbx_remove(samples: &mut [u32], octants: &mut [u32], tag: u32) -> u32
+    ensures { λ r. ⌜ Meets (Remove tag) (pair (now (samples .entry)) (now (octants .entry))) (plain r []) (pair (now (samples .exit)) (now (octants .exit))) ⌝ }
+{
+    samples::answers::number_of(samples::remove::remove(samples, octants, tag))
+}
+
+// Loads a sheet, and says how many lines were taken.
+#[no_mangle]
+pub extern "C" fn hbx_load(
+    samples: &mut [u32],
+    octants: &mut [u32],
+    sheet: &[u8],
+    taken: &mut u32,
+) -> u32
+    ensures { λ r. ⌜ Meets (Load (now (sheet .entry))) (pair (now (samples .entry)) (now (octants .entry))) (loadAnswer r (now (taken .exit))) (pair (now (samples .exit)) (now (octants .exit))) ⌝ }
+{
+    let report = samples::answers::report_of(samples::load::load(samples, octants, sheet));
+    *taken = report.taken;
+    report.number
 }
 
 // What the checking call says.

@@ -1,4 +1,5 @@
 -- Laws of the reference machine: it stays within its tables, and the whole-day theorem.
+pub mod Samples
 pub mod Valid
 pub mod Day
 pub mod Possible

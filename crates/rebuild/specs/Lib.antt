@@ -1,2 +1,2 @@
--- What a rebuild of both tables comes to.
-pub mod Rebuilding
+-- What a rebuild of both tables is asked.
+pub mod Questions

@@ -3,9 +3,9 @@ use Prim.Native.Nat.{ℕ, zero, suc, _+_, _*_}
 use mathlib.Core.Bool.{true, false}
 use mathlib.Core.List.{List, [], _∷_, map}
 use lib.Dec.{eqb}
-use lib.ListN.{getD}
+use lib.ListN.{getD, set}
 use Rattle.colour.specs.declared.Sample.{Sample}
-use Rattle.colour.specs.Colour.{colourBy}
+use Rattle.colour.specs.Colour.{Red, Green, Blue, colourBy}
 use Rattle.colour.specs.Octant.{bitWeight}
 use Rattle.model.specs.SampleSet.{SampleSet}
 use Rattle.model.specs.Layout.{Setting, Bucket, SampleField, Tag, Code, Next, OctantField, First, Last, Count, Child, Layout, sampleHeader, sampleWidth, octantHeader, octantWidth}
@@ -50,6 +50,17 @@ countIn ws = getD ws 0 0
 -- The sample in row i.
 unfoldable pub sampleIn : Layout → List ℕ → ℕ → Sample
 sampleIn L ws i = record { tag = sampleField L ws i Tag; colour = colourBy (λ h. sampleField L ws i (Code h)) }
+
+-- The words with field f of row i set, and with a sample put in row i: its next word stays.
+unfoldable pub withField : Layout → List ℕ → ℕ → SampleField → ℕ → List ℕ
+withField L ws i f w = set ws (sampleAt L f i) w
+
+unfoldable pub withSample : Layout → List ℕ → ℕ → Sample → List ℕ
+withSample L ws i s =
+    let tagged : List ℕ = withField L ws i Tag (s .tag) in
+    let red : List ℕ = withField L tagged i (Code Red) (s .colour .red) in
+    let green : List ℕ = withField L red i (Code Green) (s .colour .green) in
+    withField L green i (Code Blue) (s .colour .blue)
 
 -- The samples in rows i, .., i + n - 1.
 unfoldable pub samplesFrom : Layout → List ℕ → ℕ → ℕ → List Sample

@@ -9,7 +9,7 @@ ghost use lib.Dec.{leb};
 ghost use mathlib.Core.List.{_∷_, _++_};
 ghost use lib.ListN.{length, take, drop, set};
 ghost use Rattle.model.specs.Layout.{Bucket, Next, current, sampleHeader, octantHeader, sampleRows, octantRows, octantWidth};
-ghost use Rattle.words.specs.Rows.{sampleStart, octantStart, sampleAt, sampleField, settingIn, countIn, sampleIn, octantRowBy};
+ghost use Rattle.words.specs.Rows.{sampleStart, octantStart, sampleAt, sampleField, settingIn, countIn, sampleIn, withSample, octantRowBy};
 
 // The words before the first row, and the words of a row.
 const SAMPLE_HEADER: usize = 2;
@@ -131,6 +131,18 @@ pub fn sample(samples: &[u32], i: usize) -> Sample
             blue: samples[at + BLUE],
         },
     }
+}
+
+// Puts a sample in row i; the next word stays.
+pub fn put_sample(samples: &mut [u32], i: usize, s: Sample)
+    requires { ⌜ i < sampleRows current (length (now samples)) ⌝ }
+    ensures { λ _. ⌜ now (samples .exit) ≡ withSample current (now (samples .entry)) i s ⌝ }
+{
+    let at = sample_start(i);
+    samples[at] = s.tag;
+    samples[at + RED] = s.colour.red;
+    samples[at + GREEN] = s.colour.green;
+    samples[at + BLUE] = s.colour.blue;
 }
 
 // The next word of row i.

@@ -1,10 +1,15 @@
 -- `hbx_line`: what write_line and number_of ensure.
 use borrow.Author.Needs.{needs}
 use mathlib.Core.Path.{ap, _∙_}
+use Rattle.colour.specs.declared.Sample.{Sample}
 use Rattle.sheet.specs.Answers.{written}
+use Rattle.sheet.specs.Line.{writeLine}
 use Rattle.hubeltxa.specs.Lent.{lineLent}
 use Rattle.hubeltxa.proofs.hbx_line.Statement.{statement}
 use Rattle.hubeltxa.proofs.hbx_line.Tie as tie
+
+sample-of-requires : tie.Need-sample-of-requires
+sample-of-requires c κs = search needs
 
 write-line-requires : tie.Need-write-line-requires
 write-line-requires c κs = search needs
@@ -19,7 +24,12 @@ returns : tie.Need-returns
 unfolding written
 returns c =
     let w = c .before .before .before .write-line in
-    ap (λ n. lineLent n (w .last .1 .1 .0)) (c .number-of .ensures) ∙ w .ensures
+    let a = c .before .before .before .before .before .before .before .before .args in
+    ap (λ n. lineLent n (w .last .1 .1 .0)) (c .number-of .ensures)
+    ∙ w .ensures
+    ∙ ap (λ (s : Sample). writeLine s (a .name .now) (a .line .now)) (c .before .before .before .before .before .sample-of .ensures)
 
 pub hbx-line-spec : {M : Type 1} → statement M
-hbx-line-spec = tie.close (tie.spec write-line-requires number-of-requires same-length returns)
+hbx-line-spec =
+    tie.close
+    (tie.spec sample-of-requires write-line-requires number-of-requires same-length returns)

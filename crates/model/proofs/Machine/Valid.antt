@@ -1,14 +1,14 @@
 -- Each call keeps the machine within its tables (document 01, "The bin" and "Questions").
 use Prim.Native.Nat.{ℕ, suc, _≤_}
-use mathlib.Core.Bool.{Bool, true, false, not, _&&_, true≢false, and-eq-true-iff}
+use mathlib.Core.Bool.{Bool, true, false, not, _&&_, and-eq-true-iff}
 use mathlib.Core.List.{List, [], _∷_, _++_}
 use mathlib.Core.Option.{Option, none, some}
-use mathlib.Core.Path.{_≡_, refl, sym, ap, _∙_}
+use mathlib.Core.Path.{_≡_, refl, ap, _∙_}
 use native.Mathlib.Numerals.{add-one}
 use lib.ListN.{length, length-append}
 use lib.Dec.{eqb, ltb, leb}
 use native.Mathlib.Omega.{arith}
-use borrow.Author.Tests.{leb-true, eqb-true, eqb-false, ne-eqb, not-true}
+use borrow.Author.Tests.{leb-true, eqb-true, not-true}
 use Rattle.colour.specs.declared.Sample.{Sample}
 use Rattle.colour.specs.Colour.{codesFit}
 use Rattle.colour.specs.Octant.{depths}
@@ -24,65 +24,8 @@ use Rattle.model.specs.Machine.{Machine, Call, Clear, Load, Add, Remove,
 use Rattle.model.specs.Machine.{clearQuestions, fitQuestions, roomQuestions, addQuestions, removeQuestions, unlessRefused, loadLines, load, step}
 use Rattle.model.specs.Sound.{Valid, distinct, codesInRange}
 use Rattle.model.proofs.Lists.{keep-length}
+use Rattle.model.proofs.Machine.Samples.{keep-distinct, keep-range, snoc-distinct, both-range}
 use Rattle.model.proofs.Tree.Octants.{no-octants, fewer-octants, keep-fewer}
-
--- Of a list without a tag: its first has another, its rest is without it.
-first-tag : (t : ℕ) (x : Sample) (xs : List Sample) → hasTag t (x ∷ xs) ≡ false → (eqb (x .tag) t ≡ false) × (hasTag t xs ≡ false)
-unfolding hasTag
-first-tag t x xs h = go (eqb (x .tag) t) refl
-  where
-    go : (r : Bool) → eqb (x .tag) t ≡ r → (eqb (x .tag) t ≡ false) × (hasTag t xs ≡ false)
-    go true e = absurd (true≢false (rw (e, hasTag) at h))
-    go false e = (e, rw (e, hasTag) at h)
-
--- What was new, distinct or in range stays so where samples are left out.
-module _ (p : Sample → Bool) where
-  keep-tag : (t : ℕ) (xs : List Sample) → hasTag t xs ≡ false → hasTag t (keep p xs) ≡ false
-  unfolding keep hasTag
-  keep-tag t [] h = refl
-  keep-tag t (x ∷ xs) h = go (p x) refl (keep-tag t xs (first-tag t x xs h .1))
-    where
-      go : (r : Bool) → p x ≡ r → hasTag t (keep p xs) ≡ false → hasTag t (keep p (x ∷ xs)) ≡ false
-      go true e i = rw (e, keep) (rw (first-tag t x xs h .0, hasTag) i)
-      go false e i = rw (e, keep) i
-
-  keep-distinct : (xs : List Sample) → distinct xs → distinct (keep p xs)
-  unfolding keep distinct
-  keep-distinct [] h = tt
-  keep-distinct (x ∷ xs) h = go (p x) refl (keep-distinct xs (h .1))
-    where
-      go : (r : Bool) → p x ≡ r → distinct (keep p xs) → distinct (keep p (x ∷ xs))
-      go true e i = rw (e, keep) (keep-tag (x .tag) xs (h .0), i)
-      go false e i = rw (e, keep) i
-
-  keep-range : (xs : List Sample) → codesInRange xs → codesInRange (keep p xs)
-  unfolding keep codesInRange
-  keep-range [] h = tt
-  keep-range (x ∷ xs) h = go (p x) refl (keep-range xs (h .1))
-    where
-      go : (r : Bool) → p x ≡ r → codesInRange (keep p xs) → codesInRange (keep p (x ∷ xs))
-      go true e i = rw (e, keep) (h .0, i)
-      go false e i = rw (e, keep) i
-
--- One more at the end.
-snoc-tag : (t : ℕ) (s : Sample) (xs : List Sample) → hasTag t xs ≡ false → eqb (s .tag) t ≡ false → hasTag t (xs ++ (s ∷ [])) ≡ false
-unfolding hasTag
-snoc-tag t s [] h e = rw (e, hasTag)
-snoc-tag t s (x ∷ xs) h e = rw (first-tag t x xs h .0, hasTag) (snoc-tag t s xs (first-tag t x xs h .1) e)
-
-snoc-distinct : (s : Sample) (xs : List Sample) → distinct xs → hasTag (s .tag) xs ≡ false → distinct (xs ++ (s ∷ []))
-unfolding distinct hasTag
-snoc-distinct s [] d h = (refl, tt)
-snoc-distinct s (x ∷ xs) d h =
-    let other : eqb (s .tag) (x .tag) ≡ false = ne-eqb (s .tag) (x .tag) (λ e. eqb-false (x .tag) (s .tag) (first-tag (s .tag) x xs h .0) (sym e)) in (
-      snoc-tag (x .tag) s xs (d .0) other,
-      snoc-distinct s xs (d .1) (first-tag (s .tag) x xs h .1),
-    )
-
-snoc-range : (s : Sample) (xs : List Sample) → codesInRange xs → codesFit (s .colour) ≡ true → codesInRange (xs ++ (s ∷ []))
-unfolding codesInRange
-snoc-range s [] h c = (c, tt)
-snoc-range s (x ∷ xs) h c = (h .0, snoc-range s xs (h .1) c)
 
 -- A machine whose samples changed, within the same lengths.
 changed-valid : (m : Machine) (xs : List Sample) → Valid current m → distinct xs → codesInRange xs → length xs ≤ sampleRows current (m .sampleLength)
@@ -101,13 +44,13 @@ changed-valid m xs v d r n o =
     }
 
 added-valid : (m : Machine) (s : Sample) → Valid current m → codesFit (s .colour) ≡ true → firstNo (roomQuestions m s) ≡ 0 → Valid current (added m s)
-unfolding roomQuestions fitQuestions added withSamples withSet
+unfolding roomQuestions fitQuestions added withSamples withSet codesInRange
 added-valid m s v c h =
     let xs : List Sample = m .set .samples in
     let q5 = asked 5 (not (hasTag (s .tag) xs)) (fitQuestions m (xs ++ (s ∷ []))) (λ z. omega arith) h in
     let q6 = asked 6 (leb (length (xs ++ (s ∷ []))) (sampleRows current (m .sampleLength))) _ (λ z. omega arith) (q5 .1) in
     let q7 = asked 7 (leb (octants (added m s .set)) (octantRows current (m .octantLength))) _ (λ z. omega arith) (q6 .1) in
-    changed-valid m (xs ++ (s ∷ [])) v (snoc-distinct s xs (v .tags-distinct) (not-true _ (q5 .0))) (snoc-range s xs (v .in-range) c)
+    changed-valid m (xs ++ (s ∷ [])) v (snoc-distinct s xs (v .tags-distinct) (not-true _ (q5 .0))) (both-range xs (s ∷ []) (v .in-range) (c, tt))
     (leb-true _ _ (q6 .0)) (leb-true _ _ (q7 .0))
 
 -- Question 6 asks for an unused row.
@@ -120,7 +63,7 @@ add-valid m s v e =
     let q4 = asked 4 (codesFit (s .colour)) (roomQuestions m s) (λ z. omega arith) e in
     added-valid m s v (q4 .0) (q4 .1)
 
-removed-valid : (m : Machine) (t : ℕ) → Valid current m → Valid current (removed m t)
+pub removed-valid : (m : Machine) (t : ℕ) → Valid current m → Valid current (removed m t)
 unfolding removed withSamples withSet octants placed
 removed-valid m t v =
     let p : Sample → Bool = λ s. not (eqb (s .tag) t) in

@@ -33,21 +33,25 @@ module _ (L : Layout) where
       length-append (map (sampleWord n ordered x) (L .sample)) (sampleRowsOf L n ordered rest)
       ∙ omega (arith, length-map (L .sample) (sampleWord n ordered x), sample-rows-length n ordered rest, mul-suc (length (L .sample)) (length rest))
 
-  -- The words of a set that fits are within the table.
-  pub sample-words-fit : (set : SampleSet) (len : ℕ) → sampleHeader L ≤ len → length (set .samples) ≤ sampleRows L len
-      → length (sampleWords L set) ≤ len
-  unfolding sampleWords sampleHeader sampleRows sampleWidth placed
-  sample-words-fit set len h f =
+  pub sample-words-length : (set : SampleSet) → length (sampleWords L set) ≡ sampleHeader L + sampleWidth L * length (set .samples)
+  unfolding sampleWords sampleHeader sampleWidth placed
+  sample-words-length set =
       let rows : List ℕ = sampleRowsOf L (length (set .samples)) (order set) (placed set) in
-      let room : length (set .samples) ≤ (len - suc (length (L .settings))) / length (L .sample) = omega (arith, f) in
       omega (
         arith,
         length-append (map (settingWord (set .settings)) (L .settings)) rows,
         length-map (L .settings) (settingWord (set .settings)),
         ap (λ (n : ℕ). length (L .sample) * n) (placed-length 0 (set .samples)),
         sample-rows-length (length (set .samples)) (order set) (placed set),
-        rows-within (length (set .samples)) (len - suc (length (L .settings))) (length (L .sample)) room,
       )
+
+  -- The words of a set that fits are within the table.
+  pub sample-words-fit : (set : SampleSet) (len : ℕ) → sampleHeader L ≤ len → length (set .samples) ≤ sampleRows L len
+      → length (sampleWords L set) ≤ len
+  unfolding sampleRows
+  sample-words-fit set len h f =
+      let room : length (set .samples) ≤ (len - sampleHeader L) / sampleWidth L = omega (arith, f) in
+      omega (arith, sample-words-length set, rows-within (length (set .samples)) (len - sampleHeader L) (sampleWidth L) room)
 
   row-length : (b j at : ℕ) (xs : List Placed) → 1 ≤ length xs → length (octantRow L b j at xs) ≡ octantWidth L
   unfolding octantRow octantWidth

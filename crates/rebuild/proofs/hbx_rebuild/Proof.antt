@@ -4,7 +4,6 @@ use mathlib.Core.Path.{sym, _∙_}
 use native.Mathlib.Omega.{arith}
 use Rattle.model.specs.Sound.{longEnough}
 use borrow.Author.Tests.{not-true, not-false}
-use Rattle.octree.proofs.Laws.Tables.Check.{places-first}
 use Rattle.rebuild.proofs.Laws.Asked.{says-1, says-3, says-6, spaced, then-told}
 use Rattle.rebuild.proofs.hbx_rebuild.Statement.{statement}
 use Rattle.rebuild.proofs.hbx_rebuild.Tie as tie
@@ -38,21 +37,10 @@ returns-3 c =
     (sym (k .before .bucket-fits .ensures) ∙ not-false _ (k .if2 .left))
     (omega (arith, c .before .sample-rows .ensures .0, c .if3 .taken))
 
-array-borrow-prefix-entries : tie.Need-array-borrow-prefix-entries
-array-borrow-prefix-entries c = search needs
-
-slice-aggregate-rebuild-rows : tie.Need-slice-aggregate-rebuild-rows
-slice-aggregate-rebuild-rows c =
-    let d = c .before .before .before in
-    places-first _ (omega (arith, d .before .sample-rows .ensures .1, d .before .sample-rows .ensures .0, d .if3 .left))
-
-slice-aggregate-rebuild-rows-2 : tie.Need-slice-aggregate-rebuild-rows-2
-slice-aggregate-rebuild-rows-2 c = search needs
-
-rebuild-rows-requires : tie.Need-rebuild-rows-requires
+rebuild-requires : tie.Need-rebuild-requires
 unfolding longEnough
-rebuild-rows-requires c κs =
-    let d = c .before .before .before .before in
+rebuild-requires c κs =
+    let d = c .before .before in
     let k = d .before .before in
     let i = k .before .before in
     let s = i .before .before .before .before in
@@ -60,8 +48,6 @@ rebuild-rows-requires c κs =
     (sym (i .before .long-enough .ensures) ∙ not-false _ (i .if1 .left))
     (sym (k .before .bucket-fits .ensures) ∙ not-false _ (k .if2 .left))
     (omega (arith, d .before .sample-rows .ensures .0, d .if3 .left))
-    _
-    (places-first (s .args .n) (omega (arith, d .before .sample-rows .ensures .1, d .if3 .left)))
 
 same-length : tie.Need-same-length
 same-length c = search needs
@@ -72,8 +58,7 @@ same-length-2 c = search needs
 returns-4 : tie.Need-returns-4
 unfolding longEnough
 returns-4 c =
-    let b = c .before .before .before .before .before .before in
-    let d = b .before .before .before .before .before in
+    let d = c .before .before .before .before .before .before .before in
     let k = d .before .before in
     let i = k .before .before in
     let s = i .before .before .before .before in
@@ -81,10 +66,8 @@ returns-4 c =
     (sym (i .before .long-enough .ensures) ∙ not-false _ (i .if1 .left))
     (sym (k .before .bucket-fits .ensures) ∙ not-false _ (k .if2 .left))
     (omega (arith, d .before .sample-rows .ensures .0, d .if3 .left))
-    _
-    (places-first (s .args .n) (omega (arith, d .before .sample-rows .ensures .1, d .if3 .left)))
     _ _
-    (b .rebuild-rows .ensures)
+    (c .before .before .before .before .rebuild .ensures)
 
 pub hbx-rebuild-spec : {M : Type 1} → statement M
 hbx-rebuild-spec =
@@ -96,10 +79,7 @@ hbx-rebuild-spec =
     returns-2
     sample-rows-requires
     returns-3
-    array-borrow-prefix-entries
-    slice-aggregate-rebuild-rows
-    slice-aggregate-rebuild-rows-2
-    rebuild-rows-requires
+    rebuild-requires
     same-length
     same-length-2
     returns-4)

@@ -12,7 +12,7 @@ use Rattle.model.specs.SampleSet.{Settings, placedFrom, placed, splits, orderOf
 use Rattle.model.specs.Layout.{current}
 use Rattle.model.specs.Tables.{Tables, pair, tablesFor}
 use Rattle.model.specs.Machine.{plain, tablesOf, clearQuestions, emptySet, startOn, start}
-use Rattle.model.specs.Sound.{longEnough, codesInRange}
+use Rattle.model.specs.Sound.{longEnough}
 use Rattle.model.specs.Meets.{ClearMeets, lent}
 use Rattle.model.proofs.Tree.Octants.{no-octants}
 use Rattle.words.specs.Rows.{samplesFrom, setOf}
@@ -73,7 +73,7 @@ no-order b (suc j) = rw (leb·suc-zero b, orderOf)
 
 -- The tables of no samples can be written, where they have their headers.
 pub empty-writable : (b : ℕ) (s o : List ℕ) → longEnough current (pair s o) ≡ true → Writable b s (length o) []
-unfolding longEnough samplesFrom codesInRange entriesOf view placedFrom setOf octants placed
+unfolding longEnough samplesFrom entriesOf view placedFrom setOf octants placed
 empty-writable b s o long =
     record {
       sample-words = both-long s o long .0;

@@ -51,7 +51,7 @@ line-ranged s = go (lineFormed s) refl
     go true e = rw (e, lineOf) (from-holds Ranged _ _ _ _ _ tt (λ l n r. r))
     go false e = rw (e, lineOf) tt
 
-lines-ranged : (s : List ℕ) (k n : ℕ) → AllRanged (linesFrom s k n)
+pub lines-ranged : (s : List ℕ) (k n : ℕ) → AllRanged (linesFrom s k n)
 unfolding AllRanged linesFrom
 lines-ranged s k zero = tt
 lines-ranged s k (suc n) = (line-ranged (linePart s k), lines-ranged s (suc k) n)

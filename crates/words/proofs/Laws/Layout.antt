@@ -2,3 +2,4 @@
 pub mod Places
 pub mod Samples
 pub mod Octants
+pub mod Put

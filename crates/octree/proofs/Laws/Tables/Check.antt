@@ -1,14 +1,14 @@
 -- The checking call: what sound tables are, and that tables which hold the set that they say are sound.
-use Prim.Native.Nat.{ℕ, _-_, _≤_, _<_}
+use Prim.Native.Nat.{ℕ, zero, suc, _+_, _-_, _≤_, _<_}
 use mathlib.Core.Bool.{Bool, true, false, false≢true, not, _&&_, and-eq-true-iff}
 use mathlib.Core.List.{List}
 use mathlib.Core.Logic.{_↔_, Iff·trans}
-use mathlib.Core.Path.{_≡_, sym, ap, ap₂, _∙_, subst}
+use mathlib.Core.Path.{_≡_, refl, sym, ap, ap₂, _∙_, subst}
 use native.Mathlib.Omega.{arith}
 use borrow.Author.Tests.{le-leb, leb-true, not-true}
 use lib.Dec.{leb}
-use lib.ListN.{length, take, replicate, length-replicate}
-use lib.Seq.{length-take-le}
+use lib.ListN.{length, getD, take, replicate, length-replicate}
+use lib.Seq.{length-take-le, getD-append-add}
 use Rattle.model.specs.Layout.{current, Bucket, sampleHeader, octantHeader, sampleRows, octantRows}
 use Rattle.model.specs.Lists.{padded}
 use Rattle.model.specs.Machine.{Machine, tablesOf}
@@ -17,8 +17,9 @@ use Rattle.model.specs.SampleSet.{SampleSet, octants}
 use Rattle.model.specs.Sound.{codesInRange, distinct, Shows, Sound, longEnough}
 use Rattle.model.specs.Tables.{sampleWords, pair, tablesFor, Tables}
 use Rattle.model.proofs.Tables.Numbers.{current-numbers}
+use Rattle.model.proofs.Tables.Size.{sample-words-length}
 use Rattle.model.proofs.Tables.Unique as unique
-use Rattle.words.specs.Rows.{settingIn, countIn, samplesFrom, setOf}
+use Rattle.words.specs.Rows.{sampleStart, settingIn, countIn, samplesFrom, setOf}
 use Rattle.words.proofs.Laws.Answers.{says-no, refuted}
 use Rattle.words.proofs.Laws.Layout.Samples.{samples-length}
 use Rattle.order.specs.Entries.{entriesOf}
@@ -64,6 +65,12 @@ module _ (b n : ℕ) (ws os : List ℕ) where
             λ h. subst (λ (k : ℕ). SameTables b k ws os) (sym (as-long ∙ kept)) (h .tables),
           )
 
+-- A word among zeros, or after them.
+getD-zeros : (n i : ℕ) → getD {A = ℕ} (replicate n 0) i 0 ≡ 0
+getD-zeros zero i = refl
+getD-zeros (suc n) zero = refl
+getD-zeros (suc n) (suc i) = getD-zeros n i
+
 -- Sound tables: what their words say of the machine that they show.
 module _ (ws os : List ℕ) (m : Machine) (shows : Shows current m (pair ws os)) where
   sample-words : ws ≡ padded (m .sampleLength) (sampleWords current (m .set))
@@ -93,9 +100,21 @@ module _ (ws os : List ℕ) (m : Machine) (shows : Shows current m (pair ws os))
   samples-shown =
       ap (λ (l : List ℕ). samplesFrom current l 0 (length (m .set .samples))) sample-words ∙ samples-read (m .set) zeros
 
+  -- The words after the rows of its samples are 0.
+  pub rest-zero : (p : ℕ) → sampleStart current (countIn ws) ≤ p → getD ws p 0 ≡ 0
+  unfolding padded sampleStart
+  rest-zero p h =
+      let named : List ℕ = sampleWords current (m .set) in
+      let many : length named ≡ sampleStart current (countIn ws) =
+      sample-words-length current (m .set) ∙ ap (sampleStart current) (sym count-shown) in
+      let place : p ≡ length named + (p - length named) = omega (arith, many) in
+      ap₂ (λ (l : List ℕ) (k : ℕ). getD l k 0) sample-words place
+      ∙ getD-append-add named zeros (p - length named) 0
+      ∙ getD-zeros (m .sampleLength - length named) (p - length named)
+
   -- The set that they say is the machine's.
   module _ (b c : ℕ) (is-bucket : settingIn current ws Bucket ≡ b) (is-count : countIn ws ≡ c) where
-    said-samples : samplesFrom current ws 0 c ≡ m .set .samples
+    pub said-samples : samplesFrom current ws 0 c ≡ m .set .samples
     said-samples = ap (samplesFrom current ws 0) (sym is-count ∙ count-shown) ∙ samples-shown
 
     set-said : setOf current ws b c ≡ m .set

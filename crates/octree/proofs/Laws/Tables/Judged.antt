@@ -12,8 +12,8 @@ use denote.Enum.Declared.{tagOf}
 use lib.Dec.{leb}
 use lib.ListN.{length}
 use Rattle.colour.specs.Octant.{depths}
-use Rattle.colour.specs.Question.{firstNo}
-use Rattle.colour.proofs.Laws.Questions.{asked}
+use Rattle.colour.specs.Question.{asks, firstNo}
+use Rattle.colour.proofs.Laws.Questions.{asked, first-yes, alone-yes}
 use Rattle.model.specs.Layout.{current, Bucket, sampleRows, octantRows}
 use Rattle.model.specs.SampleSet.{orderOf, octantsOf, octants}
 use Rattle.model.specs.Tables.{pair, tablesFor, Tables}
@@ -21,7 +21,7 @@ use Rattle.words.specs.Rows.{settingIn, samplesFrom, setOf}
 use Rattle.words.proofs.Laws.Answers.{says-no, refuted}
 use Rattle.words.proofs.Laws.Layout.Places.{rows-few}
 use Rattle.words.proofs.Laws.Layout.Samples.{samples-length}
-use Rattle.order.specs.Entries.{view}
+use Rattle.order.specs.Entries.{entriesOf, view}
 use Rattle.octree.specs.Steps.{Ordered, RowsOnce, sampleTableBy, octantTableBy, SameTables, Writable, Listed, fitsRows, fitNumber, fitOctants, Judged}
 use Rattle.octree.specs.declared.tables.Fit.{Fit}
 use Rattle.octree.specs.declared.tables.Fit.the-variants as F
@@ -91,33 +91,43 @@ unfit (F.Fits n) t e = ⊎-elim (λ z. omega arith) (λ z. omega arith) t
 unfit F.NoRow t e = omega arith
 unfit F.NoOctants t e = omega arith
 
+-- Entries of the samples in the first rows, judged: these find rows, so that question 7 alone is left, and it asks the set that the rows say.
+module _ (b : ℕ) (ws es : List ℕ) (few : length es ≤ sampleRows current (length ws))
+    (entries : es ≡ entriesOf (samplesFrom current ws 0 (length es))) where
+  pub samples-few : length (samplesFrom current ws 0 (length es)) ≤ 4096
+  samples-few = omega (arith, samples-length ws (length es) 0, rows-few (length ws), few)
+
+  pub rows-octants : octantsOf b depths (view es) ≡ octants (setOf current ws b (length es))
+  unfolding setOf
+  rows-octants =
+      ap (λ (l : List ℕ). octantsOf b depths (view l)) entries
+      ∙ entries-octants b (samplesFrom current ws 0 (length es)) samples-few
+
+  module _ (after : List ℕ) (octantLength : ℕ) (r : Fit) (told : Judged b es after (length ws) octantLength r) where
+    room-number : fitNumber r ≡ firstNo (asks 7 (leb (octants (setOf current ws b (length es))) (octantRows current octantLength)) ∷ [])
+    unfolding fitsRows
+    room-number =
+        told .number
+        ∙ first-yes 6 (leb (length es) (sampleRows current (length ws))) _ (le-leb (length es) (sampleRows current (length ws)) few)
+        ∙ ap (λ (m : ℕ). firstNo (asks 7 (leb m (octantRows current octantLength)) ∷ [])) rows-octants
+
+    pub fits-room : fitNumber r ≡ 0 → octants (setOf current ws b (length es)) ≤ octantRows current octantLength
+    fits-room e = leb-true _ _ (asked 7 _ [] (λ z. omega (arith, z)) (sym room-number ∙ e) .0)
+
+    pub room-fits : octants (setOf current ws b (length es)) ≤ octantRows current octantLength → fitNumber r ≡ 0
+    unfolding firstNo
+    room-fits h = room-number ∙ alone-yes 7 _ (le-leb _ _ h)
+
 module _ {b : ℕ} {ws os es after : List ℕ} {scratch : ℕ} (listed : Listed b ws os es scratch) {r : Fit}
     (told : Judged b es after (length ws) (length os) r) where
   abbrev Same : Type 0
   Same = SameTables b (length es) ws os
 
-  samples-few : length (samplesFrom current ws 0 (length es)) ≤ 4096
-  samples-few = omega (arith, samples-length ws (length es) 0, rows-few (length ws), listed .headed .few)
-
   listed-octants : octantsOf b depths (view es) ≡ octants (setOf current ws b (length es))
-  unfolding setOf
-  listed-octants =
-      ap (λ (l : List ℕ). octantsOf b depths (view l)) (listed .entries) ∙ entries-octants b (samplesFrom current ws 0 (length es)) samples-few
-
-  fits-by : Same → fitNumber r ≡ 0
-  unfolding fitsRows firstNo
-  fits-by same =
-      let fits : octantsOf b depths (view es) ≤ octantRows current (length os) = omega (arith, listed-octants, same .octants-fit) in
-      told .number
-      ∙ rw (
-        le-leb (length es) (sampleRows current (length ws)) (listed .headed .few),
-        firstNo,
-        le-leb (octantsOf b depths (view es)) (octantRows current (length os)) fits,
-        firstNo,
-      )
+  listed-octants = rows-octants b ws es (listed .headed .few) (listed .entries)
 
   pub not-fitting : (fitNumber r ≡ 0 → ⊥) → (false ≡ true) ↔ Same
-  not-fitting ne = says-no (λ same. ne (fits-by same))
+  not-fitting ne = says-no (λ same. ne (room-fits b ws es (listed .headed .few) (listed .entries) after (length os) r told (same .octants-fit)))
 
   module _ {n : ℕ} (fits : r ≡ F.Fits n) (as-long : length after ≡ length es) where
     octants-said : n ≡ octantsOf b depths (view es)
@@ -127,7 +137,7 @@ module _ {b : ℕ} {ws os es after : List ℕ} {scratch : ℕ} (listed : Listed 
     ordered-by : InOrder b (samplesFrom current ws 0 (length es)) after
     unfolding fitOctants
     ordered-by =
-        record { few = samples-few; order = told .order n (ap fitOctants fits) ∙ ap (λ (l : List ℕ). orderOf b depths (view l)) (listed .entries) }
+        record { few = samples-few b ws es (listed .headed .few) (listed .entries); order = told .order n (ap fitOctants fits) ∙ ap (λ (l : List ℕ). orderOf b depths (view l)) (listed .entries) }
 
     pub judged-once : RowsOnce (length after) after
     judged-once =
@@ -144,11 +154,9 @@ module _ {b : ℕ} {ws os es after : List ℕ} {scratch : ℕ} (listed : Listed 
     judged-octants = octants-said ∙ listed-octants ∙ sym (same-octants ordered-by)
 
     pub judged-room : n ≤ octantRows current (length os)
-    unfolding fitNumber fitsRows
+    unfolding fitNumber
     judged-room =
-        let rest = asked 6 (leb (length es) (sampleRows current (length ws))) _ (λ e. omega arith) (sym (told .number) ∙ ap fitNumber fits) .1 in
-        let yes = asked 7 (leb (octantsOf b depths (view es)) (octantRows current (length os))) _ (λ e. omega arith) rest .0 in
-        omega (arith, octants-said, leb-true (octantsOf b depths (view es)) (octantRows current (length os)) yes)
+        omega (arith, octants-said, listed-octants, fits-room b ws es (listed .headed .few) (listed .entries) after (length os) r told (ap fitNumber fits))
 
     sample-words-are : sampleTableBy (length ws) (settingIn current ws Bucket) (view after) (samplesFrom current ws 0 (length after))
         ≡ tablesFor current (setOf current ws b (length es)) (length ws) (length os) .samples

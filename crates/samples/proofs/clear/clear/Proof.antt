@@ -2,6 +2,8 @@
 use borrow.Author.Needs.{needs}
 use mathlib.Core.Path.{sym, _∙_}
 use Rattle.model.specs.Sound.{longEnough}
+use Rattle.model.specs.Meets.{Meets}
+use Rattle.samples.specs.Answers.{changedNumber, changedAnswer}
 use borrow.Author.Tests.{not-true, not-false}
 use Rattle.samples.proofs.Laws.Cleared.{refused-short, refused-bucket, accepted, empty-writable}
 use Rattle.samples.proofs.clear.clear.Statement.{statement}
@@ -11,14 +13,14 @@ long-enough-requires : tie.Need-long-enough-requires
 long-enough-requires c κs = search needs
 
 returns : tie.Need-returns
-unfolding longEnough
+unfolding Meets changedAnswer changedNumber longEnough
 returns c = refused-short _ _ _ (sym (c .before .long-enough .ensures) ∙ not-true _ (c .if1 .taken))
 
 bucket-fits-requires : tie.Need-bucket-fits-requires
 bucket-fits-requires c κs = search needs
 
 returns-2 : tie.Need-returns-2
-unfolding longEnough
+unfolding Meets changedAnswer changedNumber longEnough
 returns-2 c =
     refused-bucket _ _ _
     (sym (c .before .before .before .long-enough .ensures) ∙ not-false _ (c .before .before .if1 .left))
@@ -44,7 +46,7 @@ same-length-2 : tie.Need-same-length-2
 same-length-2 c = search needs
 
 returns-3 : tie.Need-returns-3
-unfolding longEnough
+unfolding Meets changedAnswer changedNumber longEnough
 returns-3 c =
     let d = c .before .before .before .before in
     let e = d .before .before .before .before in

@@ -1,0 +1,2 @@
+-- Laws on answers at the C boundary.
+pub mod Told

@@ -1,0 +1,71 @@
+-- `rebuild::write_fitting`: judged, then written.
+use borrow.Author.Needs.{needs}
+use native.Mathlib.Omega.{arith}
+use lib.ListN.{length}
+use Rattle.words.proofs.Laws.Layout.Places.{rows-few}
+use Rattle.octree.proofs.Laws.Tables.Judged.{unfit}
+use Rattle.samples.proofs.Laws.Rebuilt.{no-room, fits-some, fit-to-write, with-room}
+use Rattle.samples.proofs.rebuild.write_fitting.Statement.{statement}
+use Rattle.samples.proofs.rebuild.write_fitting.Tie as tie
+
+judge-requires : tie.Need-judge-requires
+judge-requires c κs =
+    let s = c .before .before .before .before .before .before in
+    (omega (arith, s .pre .spaced .few, rows-few (length (s .args .samples .now))), s .pre .spaced .space)
+
+enum-told : tie.Need-enum-told
+enum-told c = search needs
+
+same-length : tie.Need-same-length
+same-length c = search needs
+
+same-length-2 : tie.Need-same-length-2
+same-length-2 c = search needs
+
+returns : tie.Need-returns
+returns c =
+    let s = c .before .before .before .before .before .before .before .before .before .before .before .before in
+    let j = c .before .before .before .before .before .judge in
+    no-room _ (s .args .samples .now) (s .args .octants .now) (s .args .entries .now) _ (s .pre) _ (j .result) (j .ensures) (unfit (j .result) (c .match .keys2))
+
+write-requires : tie.Need-write-requires
+write-requires c κs =
+    let s = c .before .before .before .before .before .before .before .before .before .before .before .before .before .before .before .before in
+    let j = c .before .before .before .before .before .before .before .before .before .judge in
+    let f = fits-some (j .result) (c .before .before .before .before .match .keys1) in
+    fit-to-write _ (s .args .samples .now) (s .args .octants .now) (s .args .entries .now) _ (s .pre) _ (j .result) (j .ensures) (f .0) (f .1) (j .kept .0)
+
+same-length-3 : tie.Need-same-length-3
+same-length-3 c = search needs
+
+same-length-4 : tie.Need-same-length-4
+same-length-4 c = search needs
+
+same-length-5 : tie.Need-same-length-5
+same-length-5 c = search needs
+
+same-length-6 : tie.Need-same-length-6
+same-length-6 c = search needs
+
+returns-2 : tie.Need-returns-2
+returns-2 c =
+    let s = c .before .before .before .before .before .before .before .before .before .before .before .before .before .before .before .before .before .before .before .before .before in
+    let j = c .before .before .before .before .before .before .before .before .before .before .before .before .before .before .judge in
+    let f = fits-some (j .result) (c .before .before .before .before .before .before .before .before .before .match .keys1) in
+    with-room _ (s .args .samples .now) (s .args .octants .now) (s .args .entries .now) _ (s .pre) _ (j .result) (j .ensures) (f .0) (f .1) (j .kept .0) _ (c .before .before .before .before .write .ensures)
+
+pub write-fitting-spec : {M : Type 1} → statement M
+write-fitting-spec =
+    tie.close
+    (tie.spec
+    judge-requires
+    enum-told
+    same-length
+    same-length-2
+    returns
+    write-requires
+    same-length-3
+    same-length-4
+    same-length-5
+    same-length-6
+    returns-2)
