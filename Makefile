@@ -1,8 +1,8 @@
 # make              prove every crate, and build target/staticlib/libhubeltxa.a
 # make test         the whole test, from nothing; its last line is rt's verdict
-# make test-long    all 2^32 floats in each channel, and more tables, compared with the straight scan
+# make test-long    all 2^32 floats in each channel, and more tables and calls, compared with the straight scan
 # make definitions  the definitions, compared with the straight scan by computing both
-# make bench        how fast sheets are read and written, beside ordinary Rust, and tables built and checked, beside C++
+# make bench        how fast sheets are read and written, beside ordinary Rust, and tables built, checked and changed, beside C++
 # make fmt          format Rattle and Rust
 # make clean        remove what is built
 
@@ -18,7 +18,7 @@ test:
 test-long:
 	@rt staticlib hubeltxa
 	@rt staticlib rebuild
-	@cd rust && cargo test --release --offline -- --ignored
+	@cd rust && cargo test --release --offline -- --ignored --show-output
 
 definitions:
 	@tools/definitions/run
@@ -29,6 +29,7 @@ bench:
 	@cd rust && cargo bench --offline
 	@bench/build
 	@target/bench/tables
+	@target/bench/changes
 
 fmt:
 	@rt fmt

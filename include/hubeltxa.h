@@ -126,6 +126,55 @@ uint32_t hbx_clear(uint32_t *samples, size_t samples_len, uint32_t *octants, siz
 uint32_t hbx_check(const uint32_t *samples, size_t samples_len, const uint32_t *octants,
                    size_t octants_len);
 
+/* The next three calls change a set. Each looks at every word of both tables first, as hbx_check
+ * does, and then leaves exactly the tables of the set as it has become. Each needs less than 80,000
+ * bytes of stack.
+ */
+
+/* Adds a sample at the end of the set.
+ *
+ * Returns 0 where it is added. Otherwise both tables are as they were, and the first of these that
+ * is so gives the number:
+ *    1  samples_len is under 2, or octants_len under 1
+ *    2  the tables are not sound
+ *    4  a code is over 65,535
+ *    5  a sample of the set has the tag
+ *    6  no sample row is unused
+ *    7  there are too few octant rows for the set with the sample
+ */
+uint32_t hbx_add(uint32_t *samples, size_t samples_len, uint32_t *octants, size_t octants_len,
+                 uint32_t tag, uint32_t red, uint32_t green, uint32_t blue);
+
+/* Removes the sample with the tag. The others keep their order, and those after it move one row up:
+ * its row can be used again.
+ *
+ * Returns 0 where it is removed. Otherwise both tables are as they were, and the first of these that
+ * is so gives the number:
+ *    1  samples_len is under 2, or octants_len under 1
+ *    2  the tables are not sound
+ *    8  no sample of the set has the tag
+ */
+uint32_t hbx_remove(uint32_t *samples, size_t samples_len, uint32_t *octants, size_t octants_len,
+                    uint32_t tag);
+
+/* Adds the samples of a sheet's lines, line by line, up to the first line that is refused; the reel
+ * names are checked and not kept. *taken gets how many lines were taken.
+ *
+ * Returns 0 where every line is taken; of a sheet with no lines, that is none. Where the first of
+ * these gives the number, both tables are as they were, and *taken gets 0:
+ *    1  samples_len is under 2, or octants_len under 1
+ *    2  the tables are not sound
+ *   11  the header is not good
+ * Otherwise a line is refused. The lines before it stay in the set, as if they were the whole sheet,
+ * and *taken gets how many they are. The first of these that is so of the line gives the number:
+ *   12  the line is not good
+ *    5  a sample of the set, or of a line before it, has the tag
+ *    6  no sample row is unused
+ *    7  there are too few octant rows for the set with the sample
+ */
+uint32_t hbx_load(uint32_t *samples, size_t samples_len, uint32_t *octants, size_t octants_len,
+                  const uint8_t *sheet, size_t sheet_len, uint32_t *taken);
+
 #ifdef __cplusplus
 }
 #endif

@@ -28,8 +28,8 @@
 //!
 //! Every other word is 0. Tables are *sound* when they are exactly those of some set.
 //!
-//! A call that is refused gives `Err` with the number that says why. The functions have no state and
-//! may be called from any thread.
+//! A call that is refused gives `Err` with the number that says why; a refused load also says how many
+//! lines it took. The functions have no state and may be called from any thread.
 //!
 //! ```
 //! let codes = hubeltxa::codes([0.25, 0.5, 0.75])?;
@@ -43,6 +43,9 @@
 //!
 //! let (mut samples, mut octants) = ([0; 2 + 5 * 512], [0; 1 + 11 * 1_489]);
 //! hubeltxa::clear(&mut samples, &mut octants, 16)?;
+//! assert_eq!(hubeltxa::load(&mut samples, &mut octants, &sheet), Ok(1)); // lines taken
+//! hubeltxa::add(&mut samples, &mut octants, 8, [0, 0, 65_535])?;
+//! hubeltxa::remove(&mut samples, &mut octants, 7)?;
 //! assert!(hubeltxa::check(&samples, &octants));
 //! # Ok::<(), u32>(())
 //! ```
@@ -122,6 +125,49 @@ pub mod raw {
         /// `samples` must be good for reads of `samples_len` words and `octants` of `octants_len`, and
         /// neither may be null, not even where its length is 0.
         pub fn hbx_check(samples: *const u32, samples_len: usize, octants: *const u32, octants_len: usize) -> u32;
+
+        /// Adds a sample; see [`add`](crate::add). A length is in words.
+        ///
+        /// # Safety
+        /// As of [`hbx_clear`].
+        pub fn hbx_add(
+            samples: *mut u32,
+            samples_len: usize,
+            octants: *mut u32,
+            octants_len: usize,
+            tag: u32,
+            red: u32,
+            green: u32,
+            blue: u32,
+        ) -> u32;
+
+        /// Removes the sample with a tag; see [`remove`](crate::remove). A length is in words.
+        ///
+        /// # Safety
+        /// As of [`hbx_clear`].
+        pub fn hbx_remove(
+            samples: *mut u32,
+            samples_len: usize,
+            octants: *mut u32,
+            octants_len: usize,
+            tag: u32,
+        ) -> u32;
+
+        /// Adds a sheet's samples, and says how many lines were taken; see [`load`](crate::load). The
+        /// length of a table is in words.
+        ///
+        /// # Safety
+        /// As of [`hbx_clear`]. `sheet` must be good for reads of `sheet_len` bytes, and not null, not
+        /// even where that is 0; `taken` must be good for writes. No two of the four may overlap.
+        pub fn hbx_load(
+            samples: *mut u32,
+            samples_len: usize,
+            octants: *mut u32,
+            octants_len: usize,
+            sheet: *const u8,
+            sheet_len: usize,
+            taken: *mut u32,
+        ) -> u32;
     }
 }
 
@@ -260,4 +306,119 @@ pub fn clear(samples: &mut [u32], octants: &mut [u32], bucket: u32) -> Result<()
 pub fn check(samples: &[u32], octants: &[u32]) -> bool {
     // SAFETY: each pointer and length is a slice's.
     unsafe { raw::hbx_check(samples.as_ptr(), samples.len(), octants.as_ptr(), octants.len()) != 0 }
+}
+
+/// Adds a sample at the end of the set. The call looks at every word of both tables, as [`check`] does,
+/// and needs less than 80,000 bytes of stack.
+///
+/// # Errors
+/// The first of these that is so; both tables are as they were then:
+/// - 1 where `samples` has fewer than 2 words or `octants` none;
+/// - 2 where the tables are not sound;
+/// - 4 where a code is over 65,535;
+/// - 5 where a sample of the set has the tag;
+/// - 6 where no sample row is unused;
+/// - 7 where there are too few octant rows for the set with the sample.
+///
+/// ```
+/// // Two sample rows, and octant rows enough.
+/// let (mut samples, mut octants) = ([0; 12], [0; 1 + 11 * 40]);
+/// assert_eq!(hubeltxa::add(&mut samples, &mut octants, 7, [1, 2, 3]), Err(2)); // no bucket size yet
+///
+/// hubeltxa::clear(&mut samples, &mut octants, 16)?;
+/// hubeltxa::add(&mut samples, &mut octants, 7, [1, 2, 3])?;
+/// assert_eq!(samples, [1, 16, 7, 1, 2, 3, 1, 0, 0, 0, 0, 0]);
+///
+/// assert_eq!(hubeltxa::add(&mut samples, &mut octants, 8, [1, 2, 65_536]), Err(4));
+/// assert_eq!(hubeltxa::add(&mut samples, &mut octants, 7, [4, 5, 6]), Err(5));
+/// hubeltxa::add(&mut samples, &mut octants, 8, [4, 5, 6])?;
+/// assert_eq!(hubeltxa::add(&mut samples, &mut octants, 9, [4, 5, 6]), Err(6));
+/// # Ok::<(), u32>(())
+/// ```
+pub fn add(samples: &mut [u32], octants: &mut [u32], tag: u32, codes: [u32; 3]) -> Result<(), u32> {
+    let [red, green, blue] = codes;
+    let (s, o) = (samples.as_mut_ptr(), octants.as_mut_ptr());
+    // SAFETY: each pointer and length is a slice's, and both slices are borrowed alone.
+    let number = unsafe { raw::hbx_add(s, samples.len(), o, octants.len(), tag, red, green, blue) };
+    unless_refused(number, ())
+}
+
+/// Removes the sample with a tag. The others keep their order, and those after it move one row up: its
+/// row can be used again. The call looks at every word of both tables, as [`check`] does, and needs less
+/// than 80,000 bytes of stack.
+///
+/// # Errors
+/// The first of these that is so; both tables are as they were then:
+/// - 1 where `samples` has fewer than 2 words or `octants` none;
+/// - 2 where the tables are not sound;
+/// - 8 where no sample of the set has the tag.
+///
+/// ```
+/// let (mut samples, mut octants) = ([0; 12], [0; 12]);
+/// hubeltxa::clear(&mut samples, &mut octants, 16)?;
+/// hubeltxa::add(&mut samples, &mut octants, 7, [1, 2, 3])?;
+/// hubeltxa::add(&mut samples, &mut octants, 8, [4, 5, 6])?;
+///
+/// assert_eq!(hubeltxa::remove(&mut samples, &mut octants, 9), Err(8));
+/// hubeltxa::remove(&mut samples, &mut octants, 7)?;
+/// assert_eq!(samples, [1, 16, 8, 4, 5, 6, 1, 0, 0, 0, 0, 0]);
+/// # Ok::<(), u32>(())
+/// ```
+pub fn remove(samples: &mut [u32], octants: &mut [u32], tag: u32) -> Result<(), u32> {
+    let (s, o) = (samples.as_mut_ptr(), octants.as_mut_ptr());
+    // SAFETY: each pointer and length is a slice's, and both slices are borrowed alone.
+    let number = unsafe { raw::hbx_remove(s, samples.len(), o, octants.len(), tag) };
+    unless_refused(number, ())
+}
+
+/// What a refused [`load`] gives: the number that says why, and how many lines were taken before it.
+#[derive(Clone, Copy, Debug, PartialEq, Eq)]
+pub struct RefusedLoad {
+    /// Why the load ended.
+    pub number: u32,
+    /// How many lines were taken; they stay in the set.
+    pub taken: u32,
+}
+
+/// Adds the samples of a sheet's lines, line by line, up to the first line that is refused. Gives how many
+/// lines were taken: all of them. The reel names are checked and not kept. The call looks at every word of
+/// both tables, as [`check`] does, and needs less than 80,000 bytes of stack.
+///
+/// # Errors
+/// The first of these that is so; both tables are as they were then, and `taken` is 0:
+/// - 1 where `samples` has fewer than 2 words or `octants` none;
+/// - 2 where the tables are not sound;
+/// - 11 where the header is not good.
+///
+/// Otherwise the first of these that is so of the first line that is refused; the lines before it stay in
+/// the set, and `taken` is how many they are:
+/// - 12 where the line is not good;
+/// - 5 where a sample of the set, or of a line before it, has the tag;
+/// - 6 where no sample row is unused;
+/// - 7 where there are too few octant rows for the set with the sample.
+///
+/// ```
+/// use hubeltxa::RefusedLoad;
+///
+/// let sheet = b"SWATCHES     2\n\
+///               \x20        7     0     0     0 A001                            \n\
+///               \x20        8 65535 65535 65535 A002                            \n";
+/// let (mut samples, mut octants) = ([0; 12], [0; 1 + 11 * 3]);
+/// hubeltxa::clear(&mut samples, &mut octants, 16)?;
+/// assert_eq!(hubeltxa::load(&mut samples, &mut octants, sheet), Ok(2));
+/// assert_eq!(samples, [2, 16, 7, 0, 0, 0, 1, 8, 65_535, 65_535, 65_535, 2]);
+///
+/// hubeltxa::remove(&mut samples, &mut octants, 7)?;
+/// let refused = RefusedLoad { number: 5, taken: 1 }; // 7 is taken again, and 8 is in the set
+/// assert_eq!(hubeltxa::load(&mut samples, &mut octants, sheet), Err(refused));
+/// assert_eq!(samples, [2, 16, 8, 65_535, 65_535, 65_535, 1, 7, 0, 0, 0, 2]);
+/// # Ok::<(), u32>(())
+/// ```
+pub fn load(samples: &mut [u32], octants: &mut [u32], sheet: &[u8]) -> Result<u32, RefusedLoad> {
+    let mut taken = 0;
+    let (s, o) = (samples.as_mut_ptr(), octants.as_mut_ptr());
+    // SAFETY: each pointer and length is a slice's, and what is written is borrowed alone; the last
+    // pointer is to a local.
+    let number = unsafe { raw::hbx_load(s, samples.len(), o, octants.len(), sheet.as_ptr(), sheet.len(), &mut taken) };
+    unless_refused(number, taken).map_err(|number| RefusedLoad { number, taken })
 }

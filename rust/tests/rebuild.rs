@@ -1,6 +1,6 @@
 //! Tables rebuilt from the samples in the first rows, compared with the straight scan call by call.
 //!
-//! `hbx_rebuild` is no call of the library: it builds as adding and loading will, so that this can be
+//! `hbx_rebuild` is no call of the library: it builds as add, remove and load do at their end, so that this can be
 //! measured and compared. It needs `rt staticlib rebuild` at the root of the repository first.
 
 #[path = "../../oracle/straight_scan.rs"]
@@ -8,9 +8,11 @@
 #[rustfmt::skip]
 mod straight_scan;
 
+mod lent;
 mod random;
 mod sets;
 
+use lent::Lent;
 use random::*;
 use sets::*;
 use straight_scan::{Bin, Sample};

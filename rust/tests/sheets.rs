@@ -7,12 +7,19 @@
 #[rustfmt::skip]
 mod straight_scan;
 
+mod lent;
+mod lines;
 mod random;
 
 use hubeltxa::{raw, HEADER_LENGTH as HEADER, LINE_LENGTH as LINE};
+use lent::{Lendable, Lent};
+use lines::*;
 use random::{any_of, below, random};
 use std::ops::Range;
 use straight_scan::Sample;
+
+/// A good line that stands in no sheet.
+const GUARD: &[u8] = u8::GUARD;
 
 /// A call with its arguments. A line is written over a buffer of `lent` bytes.
 #[derive(Clone, Copy)]
@@ -37,29 +44,6 @@ impl std::fmt::Debug for Call<'_> {
 enum Answer {
     Line(u32, Vec<u8>),
     Name(Range<usize>),
-}
-
-/// A good line, to stand around what is lent: reading on would find it.
-const GUARD: &[u8; LINE] = b"         7     1    22   333 GUARD                           \n";
-
-/// Bytes to lend, between two guards.
-struct Lent(Vec<u8>);
-
-impl Lent {
-    fn new(bytes: &[u8]) -> Self {
-        Lent([GUARD, bytes, GUARD].concat())
-    }
-
-    fn within(&mut self) -> &mut [u8] {
-        let end = self.0.len() - LINE;
-        &mut self.0[LINE..end]
-    }
-
-    /// The bytes as left, where the guards are whole.
-    fn left(&mut self) -> Option<&[u8]> {
-        let whole = self.0.starts_with(GUARD) && self.0.ends_with(GUARD);
-        whole.then(|| &*self.within())
-    }
 }
 
 /// A buffer for a line. It holds no byte that a line could have, so every byte that is written shows.
@@ -171,21 +155,6 @@ fn any_code(state: &mut u64) -> u32 {
 fn any_name(state: &mut u64) -> Vec<u8> {
     let length = any_of(&[1, 2, 4, 4, 4, 9, 31, 32], state);
     (0..length).map(|_| 33 + below(94, state) as u8).collect()
-}
-
-/// A line as text, whatever it is given.
-fn line_of(tag: &str, codes: [&str; 3], name: &str) -> Vec<u8> {
-    let [red, green, blue] = codes;
-    format!("{tag:>10}{red:>6}{green:>6}{blue:>6} {name:<32}\n").into_bytes()
-}
-
-fn sheet_of(count: &str, lines: &[Vec<u8>]) -> Vec<u8> {
-    [format!("SWATCHES{count:>6}\n").as_bytes(), &lines.concat()].concat()
-}
-
-/// A good sheet of these lines.
-fn good_sheet(lines: &[Vec<u8>]) -> Vec<u8> {
-    sheet_of(&lines.len().to_string(), lines)
 }
 
 fn any_line(state: &mut u64) -> Vec<u8> {
@@ -356,7 +325,7 @@ fn lines_written() {
 #[test]
 fn good_sheets() {
     for count in [0, 1, 2, 3, 7, 9, 10, 11, 99, 100, 101] {
-        let lines: Vec<_> = (0..count).map(|k| line_of(&(k % 60).to_string(), ["0"; 3], &format!("N{k}"))).collect();
+        let lines: Vec<_> = (0..count).map(|k| line_of(k % 60, ["0"; 3], &format!("N{k}"))).collect();
         let sheet = good_sheet(&lines);
         for tag in 0..count.min(60) {
             assert_eq!(look_up(&sheet, tag), format!("N{tag}").as_bytes());
@@ -377,8 +346,8 @@ fn good_sheets() {
 #[test]
 fn many_lines() {
     for count in [999, 1_000, 9_999, 10_000, 99_999, 100_000, 999_999] {
-        let mut sheet = sheet_of(&count.to_string(), &[]);
-        (0..count).for_each(|k| sheet.extend(line_of(&k.to_string(), ["0"; 3], "A001")));
+        let mut sheet = sheet_of(count, &[]);
+        (0..count).for_each(|k| sheet.extend(line_of(k, ["0"; 3], "A001")));
         assert_eq!(look_up(&sheet, count - 1), b"A001");
         sheet.extend(GUARD);
         assert_eq!(look_up(&sheet, 0), b"");
@@ -436,7 +405,7 @@ fn other_lines() {
     }
     for list in lists {
         for count in 0..=list.len() + 1 {
-            look_up_all(&before, &sheet_of(&count.to_string(), &list));
+            look_up_all(&before, &sheet_of(count, &list));
         }
     }
 }
@@ -533,7 +502,7 @@ fn room(sheet: &[u8]) -> usize {
 /// A header put first that says how many lines there are.
 fn recount(sheet: &mut [u8]) {
     if sheet.len() >= HEADER {
-        let header = sheet_of(&room(sheet).to_string(), &[]);
+        let header = sheet_of(room(sheet), &[]);
         sheet[..HEADER].copy_from_slice(&header);
     }
 }

@@ -8,19 +8,17 @@
 #[rustfmt::skip]
 mod straight_scan;
 
+mod damage;
+mod lent;
 mod random;
 mod sets;
 
+use damage::{any_words, Both};
 use hubeltxa::raw;
+use lent::Lent;
 use random::*;
 use sets::*;
 use straight_scan::{Bin, Call, Sample};
-
-/// Two tables, for a message: the first words of each.
-fn shown(samples: &[u32], octants: &[u32]) -> String {
-    let words = |table: &[u32]| format!("{:?} of {} words", &table[..table.len().min(60)], table.len());
-    format!("{} and {}", words(samples), words(octants))
-}
 
 /// The one comparison of checks: every pair of tables goes through it. Gives the answer, for tests that
 /// look at it.
@@ -68,65 +66,14 @@ fn each(sets: Vec<Vec<Sample>>) -> impl Iterator<Item = Bin> {
     sets.into_iter().flat_map(|samples| BUCKETS.map(|bucket| exact(&samples, bucket)))
 }
 
-/// Both tables as one list of words, that one place can name any of them.
-#[derive(Clone)]
-struct Both {
-    words: Vec<u32>,
-    samples: usize,
+/// Sees damaged tables: they are checked, and are sound or not.
+fn look(samples: &[u32], octants: &[u32]) {
+    check(samples, octants);
 }
 
-impl Both {
-    fn of(bin: &Bin) -> Self {
-        let (samples, octants) = bin.tables();
-        Both { words: [&samples[..], &octants[..]].concat(), samples: samples.len() }
-    }
-
-    fn check(&self) -> bool {
-        let (samples, octants) = self.words.split_at(self.samples);
-        check(samples, octants)
-    }
-
-    /// Checks with another word in one place.
-    fn check_with(&mut self, at: usize, word: u32) -> bool {
-        let held = std::mem::replace(&mut self.words[at], word);
-        let answer = self.check();
-        self.words[at] = held;
-        answer
-    }
-
-    /// Checks with the words of two parts exchanged.
-    fn check_swapped(&mut self, one: usize, other: usize, size: usize) {
-        let swap = |words: &mut [u32]| (0..size).for_each(|i| words.swap(one + i, other + i));
-        swap(&mut self.words);
-        self.check();
-        swap(&mut self.words);
-    }
-
-    /// Checks with each of the usual wrong words in one place: one up and one down, 0, the greatest, the
-    /// first number that is no code, the highest bit turned.
-    fn check_damaged(&mut self, at: usize) {
-        let word = self.words[at];
-        let (up, down) = (word.wrapping_add(1), word.wrapping_sub(1));
-        for wrong in [up, down, 0, u32::MAX, 65_536, word ^ 1 << 31] {
-            if wrong != word {
-                self.check_with(at, wrong);
-            }
-        }
-    }
-
-    /// Where each row of a table starts.
-    fn sample_rows(&self) -> Vec<usize> {
-        (0..self.words[0] as usize).map(|i| 2 + 5 * i).collect()
-    }
-
-    fn octant_rows(&self) -> Vec<usize> {
-        (0..self.words[self.samples] as usize).map(|i| self.samples + 1 + 11 * i).collect()
-    }
-}
-
-/// Every pair of two different ones.
-fn pairs(of: &[usize]) -> Vec<(usize, usize)> {
-    of.iter().enumerate().flat_map(|(i, &x)| of[..i].iter().map(move |&y| (y, x))).collect()
+/// Sees damaged tables that are never sound.
+fn refuse(samples: &[u32], octants: &[u32]) {
+    assert!(!check(samples, octants), "{}", shown(samples, octants));
 }
 
 fn check_lengths(bin: &Bin) {
@@ -156,8 +103,8 @@ fn sound_tables_of_large_sets() {
     // More rows than 4,096: those past them are no rows.
     let bin = exact(&tagged(scattered(4_096, 31)), 16);
     let mut both = Both::of(&longer(&bin, 5, 11));
-    assert!(both.check());
-    assert!(!both.check_with(0, 4_097));
+    assert!(both.show(check));
+    assert!(!both.with(0, 4_097, check));
 }
 
 #[test]
@@ -172,7 +119,7 @@ fn longest_tables() {
             check_sound(&tables);
             let mut both = Both::of(&tables);
             let last = both.words.len() - 1;
-            assert!(!both.check_with(last, 1));
+            assert!(!both.with(last, 1, check));
         }
     }
 }
@@ -186,29 +133,27 @@ fn bucket_sizes() {
         }
         let mut both = Both::of(&exact(&samples, 16));
         for bucket in (0..=300).chain([512, 65_536, 1 << 31, u32::MAX]) {
-            both.check_with(1, bucket);
+            both.with(1, bucket, check);
         }
-        assert!(!both.check_with(1, 0));
-        assert!(!both.check_with(1, 257));
+        assert!(!both.with(1, 0, check));
+        assert!(!both.with(1, 257, check));
     }
     // All in the root whatever the bucket size, so that only its range counts.
     let mut both = Both::of(&exact(&tagged([[5; 3]]), 16));
     for bucket in 0..=300 {
-        assert_eq!(both.check_with(1, bucket), (1..=256).contains(&bucket));
+        assert_eq!(both.with(1, bucket, check), (1..=256).contains(&bucket));
     }
 }
 
 #[test]
 fn every_word_changed() {
     for bin in each(small_sets()).filter(|bin| bin.octant_words < 1_500) {
-        let mut both = Both::of(&longer(&bin, 5 + 3, 11 + 7));
-        (0..both.words.len()).for_each(|at| both.check_damaged(at));
+        damage::words_changed(&longer(&bin, 5 + 3, 11 + 7), 1, &mut look);
     }
 }
 
 fn change_some_words(bin: &Bin, step: usize) {
-    let mut both = Both::of(bin);
-    (0..both.words.len()).step_by(step).for_each(|at| both.check_damaged(at));
+    damage::words_changed(bin, step, &mut look);
 }
 
 #[test]
@@ -219,27 +164,15 @@ fn words_of_large_sets_changed() {
     change_some_words(&exact(&tagged([[65_535; 3]; 4_096]), 256), 2_003);
 }
 
-/// A word that is not 0 in each place where 0 belongs: past the rows in use, and past the last row.
 #[test]
 fn zeros_broken() {
-    for bin in each(small_sets()) {
-        let more = longer(&bin, 2 * 5 + 3, 2 * 11 + 7);
-        let mut both = Both::of(&more);
-        let tails = (bin.sample_words..both.samples).chain(both.samples + bin.octant_words..both.words.len());
-        for at in tails {
-            for word in [1, 1 << 16, u32::MAX] {
-                assert!(!both.check_with(at, word));
-            }
-        }
-    }
+    each(small_sets()).for_each(|bin| damage::zeros_broken(&bin, &mut refuse));
 }
 
 #[test]
 fn tables_cut() {
     for bin in each(small_sets()).filter(|bin| bin.sample_words + bin.octant_words < 400) {
-        let (samples, octants) = longer(&bin, 3, 3).tables();
-        (0..samples.len()).for_each(|n| _ = check(&samples[..n], &octants));
-        (0..octants.len()).for_each(|n| _ = check(&samples, &octants[..n]));
+        damage::tables_cut(&bin, &mut look);
     }
     for bin in each(small_sets()).filter(|bin| bin.samples.len() < 4 && bin.octant_words < 50) {
         let (samples, octants) = longer(&bin, 6, 3).tables();
@@ -271,63 +204,26 @@ fn tables_of_few_words() {
 
 #[test]
 fn counts_changed() {
-    for bin in each(small_sets()) {
-        let mut both = Both::of(&longer(&bin, 5, 11));
-        for at in [0, both.samples] {
-            let count = both.words[at];
-            for wrong in (0..count + 4).chain([4_095, 4_096, 4_097, 1 << 16, 1 << 31, u32::MAX - 1, u32::MAX]) {
-                both.check_with(at, wrong);
-            }
-            assert!(!both.check_with(at, u32::MAX));
-        }
-    }
+    each(small_sets()).for_each(|bin| damage::counts_changed(&bin, &mut refuse));
 }
 
 #[test]
 fn rows_swapped() {
-    for bin in each(small_sets()).filter(|bin| bin.octant_words < 800) {
-        let mut both = Both::of(&bin);
-        let (samples, octants) = (both.sample_rows(), both.octant_rows());
-        for (one, other) in pairs(&samples) {
-            both.check_swapped(one, other, 5);
-            // The samples without their next words, and the next words alone.
-            both.check_swapped(one, other, 4);
-            both.check_swapped(one + 4, other + 4, 1);
-        }
-        for (one, other) in pairs(&octants).into_iter().step_by(3) {
-            both.check_swapped(one, other, 11);
-        }
-    }
+    let bins = each(small_sets()).filter(|bin| bin.octant_words < 800);
+    bins.for_each(|bin| damage::rows_swapped(&bin, &mut look));
 }
 
 #[test]
 fn children_swapped() {
-    for bin in each(small_sets()).filter(|bin| bin.octant_words < 800) {
-        let mut both = Both::of(&bin);
-        for row in both.octant_rows() {
-            let words: Vec<usize> = (row..row + 11).collect();
-            pairs(&words).into_iter().for_each(|(one, other)| both.check_swapped(one, other, 1));
-        }
-    }
+    let bins = each(small_sets()).filter(|bin| bin.octant_words < 800);
+    bins.for_each(|bin| damage::children_swapped(&bin, &mut look));
 }
 
-/// Tables that are right but for two samples with one tag.
 #[test]
 fn equal_tags() {
     let mut state = 61;
-    for bin in each(small_sets()).chain([exact(&tagged(scattered(4_096, 62)), 16)]) {
-        let n = bin.samples.len();
-        if n < 2 {
-            continue;
-        }
-        let some = (0..10).map(|_| (below(n, &mut state), below(n, &mut state)));
-        for (i, j) in [(0, 1), (0, n - 1), (n - 2, n - 1)].into_iter().chain(some) {
-            let mut same = bin.clone();
-            same.samples[i].tag = same.samples[j].tag;
-            let (samples, octants) = same.tables();
-            assert_eq!(check(&samples, &octants), i == j);
-        }
-    }
+    let bins = each(small_sets()).chain([exact(&tagged(scattered(4_096, 62)), 16)]);
+    bins.for_each(|bin| damage::equal_tags(&bin, &mut state, &mut refuse));
 }
 
 /// Tags that differ in one bit; tags in a row, from either end; and each of these with one tag given twice.
@@ -358,99 +254,33 @@ fn tags_apart() {
     }
 }
 
-/// Codes past the end in tables that are otherwise right: the root is not split, so no octant asks them.
 #[test]
 fn codes_past_the_end() {
-    for samples in small_sets().into_iter().filter(|samples| !samples.is_empty()) {
-        for (i, channel) in (0..samples.len()).flat_map(|i| [0, 1, 2].map(|h| (i, h))) {
-            for code in [65_535, 65_536, 65_537, 1 << 17, 1 << 31, u32::MAX] {
-                let mut bin = exact(&samples, 256);
-                bin.samples[i].codes[channel] = code;
-                let (samples, octants) = bin.tables();
-                assert_eq!(check(&samples, &octants), code == 65_535);
-            }
-        }
-    }
+    small_sets().iter().for_each(|samples| damage::codes_past_the_end(samples, &mut refuse));
+    check_sound(&exact(&tagged([[65_535; 3]; 2]), 256));
 }
 
-/// The tables of fewer samples with a row left where it was, or a word of it.
 #[test]
 fn rows_left() {
-    for bin in each(small_sets()).filter(|bin| !bin.samples.is_empty()) {
-        let n = bin.samples.len() - 1;
-        let (before, _) = bin.tables();
-        let fewer = Bin { samples: bin.samples[..n].to_vec(), ..bin };
-        check_sound(&fewer);
-        let (mut samples, octants) = fewer.tables();
-        let row = 2 + 5 * n..7 + 5 * n;
-        samples[row.clone()].copy_from_slice(&before[row.clone()]);
-        assert_eq!(check(&samples, &octants), before[row.clone()].iter().all(|&word| word == 0));
-        for at in row.clone() {
-            let (mut samples, _) = fewer.tables();
-            samples[at] = before[at];
-            assert_eq!(check(&samples, &octants), before[at] == 0);
-        }
-    }
+    each(small_sets()).for_each(|bin| damage::rows_left(&bin, &mut refuse));
 }
 
-/// The sample table of one set with the octant table of another: other bucket sizes, other sets, the same
-/// samples in another sequence.
 #[test]
 fn tables_mixed() {
-    let same_length = |bin: Bin| Bin { sample_words: 2 + 5 * 64, octant_words: 1 + 11 * 700, ..bin };
-    let tables: Vec<_> = each(small_sets()).map(|bin| same_length(bin).tables()).collect();
-    for (i, (samples, _)) in tables.iter().enumerate() {
-        for (_, octants) in tables.iter().skip(i % 5).step_by(5) {
-            check(samples, octants);
-        }
-    }
-    for bin in each(small_sets()) {
-        let mut turned = bin.clone();
-        turned.samples.reverse();
-        let ((samples, octants), (samples_turned, octants_turned)) = (bin.tables(), turned.tables());
-        check(&samples, &octants_turned);
-        check(&samples_turned, &octants);
-    }
+    damage::mixed(&each(small_sets()).collect::<Vec<_>>(), 5, &mut look);
 }
 
-/// A few edits at once to sound tables: words set, moved, copied and turned, rows copied.
 fn random_edits(tries: usize, mut state: u64) {
-    let state = &mut state;
     let tables: Vec<Both> = each(small_sets()).map(|bin| Both::of(&longer(&bin, 5, 11))).collect();
     for _ in 0..tries {
-        let mut both = tables[below(tables.len(), state)].clone();
-        for _ in 0..1 + below(3, state) {
-            let n = both.words.len();
-            let (at, from) = (below(n, state), below(n, state));
-            match below(6, state) {
-                0 => both.words[at] = random(state) as u32,
-                1 => both.words[at] = below(40, state) as u32,
-                2 => both.words[at] = both.words[from],
-                3 => both.words.swap(at, from),
-                4 => both.words[at] ^= 1 << below(32, state),
-                _ => {
-                    let size = any_of(&[2, 5, 11], state).min(n - at.max(from));
-                    both.words.copy_within(from..from + size, at);
-                }
-            }
-        }
-        both.check();
+        let both = tables[below(tables.len(), &mut state)].clone();
+        damage::edited(both, &mut state, &mut look);
     }
 }
 
 #[test]
 fn tables_edited() {
     random_edits(40_000, 71);
-}
-
-/// Small numbers and random ones for words.
-fn any_words(length: usize, state: &mut u64) -> Vec<u32> {
-    let word = |state: &mut u64| match random(state) >> 62 {
-        0 => random(state) as u32,
-        1 => any_of(&[0, 1, 2, 16, 256, 257, 4_096, 65_535, 65_536, u32::MAX], state),
-        _ => below(4, state) as u32,
-    };
-    (0..length).map(|_| word(state)).collect()
 }
 
 #[test]

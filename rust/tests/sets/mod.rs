@@ -1,4 +1,6 @@
-//! Sample sets, their tables by the straight scan, and words lent between guards.
+//! Sample sets, and their tables by the straight scan.
+
+#![allow(dead_code)]
 
 use crate::random::*;
 use crate::straight_scan::{Bin, Codes, Sample};
@@ -6,26 +8,10 @@ use crate::straight_scan::{Bin, Codes, Sample};
 /// The bucket sizes of the tests.
 pub const BUCKETS: [u32; 4] = [1, 2, 16, 256];
 
-/// Words to lend, between two guards. No guard word is 0, so that reading on shows too.
-pub struct Lent(Vec<u32>);
-
-const GUARD: [u32; 16] = [0xA5A5_A5A5; 16];
-
-impl Lent {
-    pub fn new(words: &[u32]) -> Self {
-        Lent([&GUARD, words, &GUARD].concat())
-    }
-
-    pub fn within(&mut self) -> &mut [u32] {
-        let end = self.0.len() - GUARD.len();
-        &mut self.0[GUARD.len()..end]
-    }
-
-    /// The words as left, where the guards are whole.
-    pub fn left(&mut self) -> Option<&[u32]> {
-        let whole = self.0.starts_with(&GUARD) && self.0.ends_with(&GUARD);
-        whole.then(|| &*self.within())
-    }
+/// Two tables, for a message: the first words of each.
+pub fn shown(samples: &[u32], octants: &[u32]) -> String {
+    let words = |table: &[u32]| format!("{:?} of {} words", &table[..table.len().min(60)], table.len());
+    format!("{} and {}", words(samples), words(octants))
 }
 
 /// Samples of these colours. Tags are spread over 32 bits, and no two are equal: an odd factor is undone

@@ -1,0 +1,803 @@
+//! Sets changed by add, remove and load, compared with the straight scan call by call.
+//!
+//! `cargo test --release` takes some seconds. The ignored tests go through more calls, and load whole sheets of
+//! 4,096 lines: `make test-long`, or `cargo test --release --test changes -- --ignored`. Each test prints how many
+//! calls it compared, by call and number, which `--show-output` shows.
+
+#[path = "../../oracle/straight_scan.rs"]
+#[allow(dead_code)]
+#[rustfmt::skip]
+mod straight_scan;
+
+mod compared;
+mod damage;
+mod lent;
+mod lines;
+mod random;
+mod sets;
+
+use compared::{Compared, Tables};
+use damage::{any_words, Both};
+use hubeltxa::{HEADER_LENGTH as HEADER, LINE_LENGTH as LINE};
+use lines::*;
+use random::*;
+use sets::*;
+use straight_scan::{Bin, Call, Codes, Sample};
+
+/// The bucket sizes of these tests.
+const SIZES: [u32; 5] = [1, 2, 16, 255, 256];
+
+/// The most sample rows.
+const MOST: usize = 4_096;
+
+/// The longest name.
+const LONG_NAME: &str = "!2345678901234567890123456789012";
+
+fn line(sample: Sample) -> Vec<u8> {
+    line_of(sample.tag, sample.codes, "A001")
+}
+
+/// A good sheet of samples.
+fn sheet(samples: &[Sample]) -> Vec<u8> {
+    good_sheet(&samples.iter().map(|&sample| line(sample)).collect::<Vec<_>>())
+}
+
+/// Lines that are not good, each by one thing: a number out of range or not so formed, a name, what stands
+/// between and after.
+fn bad_lines(sample: Sample) -> Vec<Vec<u8>> {
+    let Sample { tag, codes } = sample;
+    let with = |at: usize, byte: u8| {
+        let mut altered = line(sample);
+        altered[at] = byte;
+        altered
+    };
+    let code = |channel: usize, text: &str| {
+        let mut texts = codes.map(|code| code.to_string());
+        texts[channel] = text.to_string();
+        line_of(tag, texts, "A001")
+    };
+    let tags = ["4294967296", "9999999999", "007", "", "-7", "7 "].map(|text| line_of(text, codes, "A001"));
+    let channels = (0..3).flat_map(|h| ["65536", "999999", "01", "", "1 "].map(|text| code(h, text)));
+    let names = ["", "A 1", " A1", "A\x7F", "A\t"].map(|name| line_of(tag, codes, name));
+    let between = [with(28, b'.'), with(61, b' '), with(61, b'\r'), with(60, b'!'), with(0, b'+')];
+    tags.into_iter().chain(channels).chain(names).chain(between).collect()
+}
+
+/// Colours of one kind, at most so many: anywhere, around a few, all equal, on the planes between octants, in pairs
+/// that part at the last depth, in a few of the smallest octants.
+fn pool(most: usize, state: &mut u64) -> Vec<Codes> {
+    let seed = random(state);
+    match below(6, state) {
+        0 => scattered(most, seed),
+        1 => clustered(most, 3, 40, seed),
+        2 => scattered(1, seed),
+        3 => grid(&[0, 16_383, 16_384, 32_767, 32_768, 65_535]),
+        4 => close_pairs(most / 10, seed),
+        _ => clustered(most, 2, 3, seed),
+    }
+}
+
+/// A set of so many of these colours, in tables that have at most so many rows more.
+fn any_set(samples: usize, colours: &[Codes], more_rows: usize, more_octants: usize, state: &mut u64) -> Tables {
+    let samples = tagged((0..samples).map(|_| any_of(colours, state)));
+    let bin = exact(&samples, any_of(&SIZES, state));
+    let more = |rows: usize, width: usize, state: &mut u64| width * below(rows + 1, state) + below(width, state);
+    let (s, o) = (more(more_rows, 5, state), more(more_octants, 11, state));
+    Tables::of(longer(&bin, s, o))
+}
+
+/// A tag that is not in the set.
+fn new_tag(bin: &Bin, state: &mut u64) -> u32 {
+    let tag = match below(5, state) {
+        0 => below(100, state) as u32,
+        1 => any_of(&[0, 1, 1 << 31, u32::MAX - 1, u32::MAX], state),
+        2 => (below(MOST, state) as u32) << 20, // the same but for the highest digits
+        _ => random(state) as u32,
+    };
+    if bin.samples.iter().any(|sample| sample.tag == tag) {
+        return new_tag(bin, state);
+    }
+    tag
+}
+
+/// A tag of the set; any where it is empty.
+fn known_tag(bin: &Bin, state: &mut u64) -> u32 {
+    match bin.samples.len() {
+        0 => random(state) as u32,
+        n => bin.samples[below(n, state)].tag,
+    }
+}
+
+/// A sheet, most lines of which can be added: of three, one has a line that is not good, or that has a tag of the
+/// set or of an earlier line; of eight, one has a header that is not good.
+fn any_sheet(bin: &Bin, colours: &[Codes], most_lines: usize, state: &mut u64) -> Vec<u8> {
+    let sample = |state: &mut u64| Sample { tag: new_tag(bin, state), codes: any_of(colours, state) };
+    let mut samples: Vec<Sample> = (0..below(most_lines + 1, state)).map(|_| sample(state)).collect();
+    let (n, kind) = (samples.len(), below(9, state));
+    if n > 0 && kind == 0 {
+        samples[below(n, state)].tag = known_tag(bin, state);
+    }
+    if n > 0 && kind == 1 {
+        samples[below(n, state)].tag = samples[below(n, state)].tag;
+    }
+    let name = any_of(&["A001", "~", LONG_NAME], state);
+    let mut lines: Vec<Vec<u8>> = samples.iter().map(|s| line_of(s.tag, s.codes, name)).collect();
+    if n > 0 && kind == 2 {
+        let at = below(n, state);
+        let bad = bad_lines(samples[at]);
+        lines[at] = bad[below(bad.len(), state)].clone();
+    }
+    let mut sheet = good_sheet(&lines);
+    match below(32, state) {
+        0 => sheet[below(HEADER, state)] = random(state) as u8,
+        1 => _ = sheet.pop(),
+        2 => sheet.push(b'\n'),
+        3 => sheet = sheet_of(n + 1, &lines),
+        _ => {}
+    }
+    sheet
+}
+
+fn any_call(bin: &Bin, colours: &[Codes], most_lines: usize, growing: bool, state: &mut u64) -> Call {
+    if below(80, state) == 0 {
+        return Call::Clear(any_of(&[0, 1, 2, 16, 255, 256, 257], state));
+    }
+    let seldom = below(8, state) == 0;
+    let (removes, loads) = if growing { (3, 8) } else { (11, 12) };
+    match below(16, state) {
+        k if k < removes && seldom => Call::Remove(new_tag(bin, state)),
+        k if k < removes => Call::Remove(known_tag(bin, state)),
+        k if k < loads => Call::Load(any_sheet(bin, colours, most_lines, state)),
+        _ => {
+            let mut codes = any_of(colours, state);
+            if below(16, state) == 0 {
+                codes[below(3, state)] = any_of(&[65_536, 1 << 31, u32::MAX], state);
+            }
+            let tag = if seldom { known_tag(bin, state) } else { new_tag(bin, state) };
+            Call::Add(tag, codes)
+        }
+    }
+}
+
+/// The tables cut until one is too short.
+fn cut(tables: &Tables, state: &mut u64) -> Tables {
+    let (samples, octants) = (&tables.samples, &tables.octants);
+    match below(3, state) {
+        0 => Tables::of_words(&samples[..below(2, state)], octants),
+        1 => Tables::of_words(samples, &[]),
+        _ => Tables::of_words(&samples[..below(2, state)], &[]),
+    }
+}
+
+/// Calls one after the other, through times when the set grows and when it gets smaller. Some find the tables cut
+/// or damaged, which are whole again for the next.
+fn sequence(
+    compared: &mut Compared,
+    mut tables: Tables,
+    colours: &[Codes],
+    calls: usize,
+    most_lines: usize,
+    state: &mut u64,
+) {
+    let mut growing = true;
+    for _ in 0..calls {
+        growing ^= below(25, state) == 0;
+        let bin = tables.set.clone().unwrap();
+        let call = any_call(&bin, colours, most_lines, growing, state);
+        match below(25, state) {
+            0 => _ = compared.ask(&cut(&tables, state), &call),
+            1 => damage::edited(Both::of(&bin), state, &mut |s, o| {
+                compared.ask(&Tables::of_words(s, o), &call);
+            }),
+            _ => _ = compared.call(&mut tables, &call),
+        }
+        assert!(hubeltxa::check(&tables.samples, &tables.octants));
+    }
+}
+
+/// Sequences on sets of some tens and of some hundreds of samples.
+fn sequences(compared: &mut Compared, runs: usize, calls: usize, mut state: u64) {
+    let state = &mut state;
+    for run in 0..runs {
+        let colours = pool(500, state);
+        let (samples, rows, octants, lines) = if run % 4 == 0 { (400, 40, 60, 30) } else { (30, 12, 40, 10) };
+        let tables = any_set(below(samples, state), &colours, rows, octants, state);
+        sequence(compared, tables, &colours, calls, lines, state);
+    }
+}
+
+#[test]
+fn call_sequences() {
+    let mut compared = Compared::default();
+    sequences(&mut compared, 120, 150, 1);
+    compared.print_all_seen("call sequences");
+}
+
+/// Sequences on sets with nearly all rows that there can be in use.
+fn large_sequences(compared: &mut Compared, runs: usize, calls: usize, mut state: u64) {
+    let state = &mut state;
+    for _ in 0..runs {
+        let colours = pool(MOST, state);
+        let tables = any_set(MOST - below(20, state), &colours, 20, 5, state);
+        sequence(compared, tables, &colours, calls, 5, state);
+    }
+}
+
+#[test]
+fn call_sequences_on_large_sets() {
+    let mut compared = Compared::default();
+    large_sequences(&mut compared, 16, 30, 2);
+    compared.print("call sequences on large sets");
+}
+
+// Adds and removes.
+
+/// Every sample of a set added, then each removed and added again, then all removed from the front, the back or
+/// the middle: in tables just long enough, and in tables that lack a word of either.
+#[test]
+fn added_and_removed() {
+    let mut compared = Compared::default();
+    for samples in small_sets().into_iter().filter(|samples| samples.len() < 30) {
+        for bucket in SIZES {
+            let whole = exact(&samples, bucket);
+            for (s, o) in [(0, 0), (1, 0), (0, 1)] {
+                let words = (whole.sample_words - s, whole.octant_words - o);
+                let Ok(empty) = straight_scan::start(words.0, words.1, bucket) else { continue };
+                let mut tables = Tables::of(empty);
+                let add = |x: &Sample| Call::Add(x.tag, x.codes);
+                for sample in &samples {
+                    compared.call(&mut tables, &add(sample));
+                }
+                let fit = tables.set.as_ref().unwrap().samples.len();
+                assert!(if s + o == 0 { fit == samples.len() } else { fit < samples.len() });
+                for call in samples.iter().flat_map(|x| [Call::Remove(x.tag), add(x), add(x)]) {
+                    compared.call(&mut tables, &call);
+                }
+                for from in 0..3 {
+                    let mut left = tables.clone();
+                    while let Some(last) = left.set.as_ref().unwrap().samples.len().checked_sub(1) {
+                        let row = [0, last / 2, last][from];
+                        let tag = left.set.as_ref().unwrap().samples[row].tag;
+                        assert_eq!(compared.call(&mut left, &Call::Remove(tag)), (0, 0));
+                        assert_eq!(compared.ask(&left, &Call::Remove(tag)), (8, 0));
+                    }
+                }
+            }
+        }
+    }
+    compared.print("added and removed");
+}
+
+/// The tables are judged before codes, codes before the tag, the tag before rows, rows before octants.
+#[test]
+fn questions_in_order() {
+    let mut compared = Compared::default();
+    let samples = tagged([[0; 3], [65_535; 3], [0; 3]]);
+    // Bucket size 1: the first two fill both tables just so, and the third needs 15 octants more.
+    let full = exact(&samples[..2], 1);
+    for (rows, octants) in (0..2).flat_map(|rows| (0..2).map(move |octants| (rows, octants))) {
+        let tables = Tables::of(longer(&full, 5 * rows, 11 * 15 * octants));
+        for code in [0, 65_536] {
+            for tag in [samples[0].tag, samples[2].tag] {
+                let asked = [(code > 65_535, 4), (tag == 0, 5), (rows == 0, 6), (octants == 0, 7)];
+                let first = asked.into_iter().find_map(|(no, number)| no.then_some(number));
+                let call = Call::Add(tag, [0, 0, code]);
+                assert_eq!(compared.ask(&tables, &call), (first.unwrap_or(0), 0));
+                let mut unsound = tables.samples.clone();
+                unsound[1] = 0;
+                assert_eq!(compared.ask(&Tables::of_words(&unsound, &tables.octants), &call), (2, 0));
+                assert_eq!(compared.ask(&Tables::of_words(&unsound[..1], &tables.octants), &call), (1, 0));
+            }
+        }
+    }
+    compared.print("questions in order");
+}
+
+/// Codes at their ends, in each channel.
+#[test]
+fn codes() {
+    let mut compared = Compared::default();
+    let tables = Tables::of(longer(&exact(&tagged(scattered(20, 3)), 2), 5, 11 * 40));
+    for code in [0, 1, 32_767, 32_768, 65_534, 65_535, 65_536, 65_537, 1 << 17, 1 << 31, u32::MAX] {
+        for channel in 0..3 {
+            let mut codes = [9; 3];
+            codes[channel] = code;
+            let number = if code > 65_535 { 4 } else { 0 };
+            assert_eq!(compared.ask(&tables, &Call::Add(3, codes)), (number, 0));
+        }
+    }
+    compared.print("codes");
+}
+
+/// Cases a, b, g and h of document 01.
+#[test]
+fn cases() {
+    let mut compared = Compared::default();
+    let three = [Call::Add(7, [0; 3]), Call::Add(8, [65_535; 3]), Call::Add(9, [0; 3])];
+    let mut tables = Tables::of(straight_scan::start(2 + 5 * 3, 1 + 11 * 3, 2).unwrap());
+    three.iter().for_each(|call| assert_eq!(compared.call(&mut tables, call), (0, 0)));
+    assert_eq!([6, 11, 16].map(|at| tables.samples[at]), [2, 3, 1]);
+    assert_eq!(tables.octants[..12], [3, 0, 1, 3, 1, 0, 0, 0, 0, 0, 0, 2]);
+    for call in [Call::Remove(7), Call::Add(7, [0; 3])] {
+        assert_eq!(compared.call(&mut tables, &call), (0, 0));
+    }
+    assert_eq!([2, 7, 12].map(|at| tables.samples[at]), [8, 9, 7]);
+    for (words, number) in [(199, 0), (198, 7)] {
+        let mut tables = Tables::of(straight_scan::start(2 + 5 * 3, words, 1).unwrap());
+        assert_eq!(three.iter().map(|call| compared.call(&mut tables, call).0).max(), Some(number));
+    }
+    compared.print("cases");
+}
+
+// Loads.
+
+/// Sets to load into, none or part of the samples, and the samples to load.
+fn parts(samples: &[Sample]) -> impl Iterator<Item = (&[Sample], &[Sample])> {
+    [0, 1, samples.len() / 2].into_iter().map(|n| samples.split_at(n))
+}
+
+/// Lists of samples to load, of each kind of colour.
+fn lists() -> Vec<Vec<Sample>> {
+    let planes = grid(&[0, 32_767, 32_768]).into_iter().step_by(2);
+    vec![
+        tagged(scattered(16, 11)),
+        tagged(clustered(20, 2, 9, 12)),
+        tagged([[300, 65_535, 0]; 12]),
+        tagged(planes),
+        tagged(close_pairs(14, 13)),
+    ]
+}
+
+/// The tables of some of the samples with each bucket size, with rows for all.
+fn part_filled(all: &[Sample], there: &[Sample]) -> Vec<Tables> {
+    let words = |bucket| {
+        let whole = exact(all, bucket);
+        Tables::of(Bin { samples: there.to_vec(), ..whole })
+    };
+    SIZES.map(words).into()
+}
+
+/// A line that is not good, or has a tag of the set or of an earlier line, at every position.
+#[test]
+fn lines_refused() {
+    let mut compared = Compared::default();
+    for all in lists() {
+        for (there, new) in parts(&all) {
+            for tables in part_filled(&all, there) {
+                assert_eq!(compared.load(&tables, sheet(new)), (0, new.len() as u32));
+                for at in 0..new.len() {
+                    let with = |line: Vec<u8>| {
+                        let mut lines: Vec<Vec<u8>> = new.iter().map(|&sample| self::line(sample)).collect();
+                        lines[at] = line;
+                        good_sheet(&lines)
+                    };
+                    for bad in bad_lines(new[at]) {
+                        assert_eq!(compared.load(&tables, with(bad)), (12, at as u32));
+                    }
+                    for known in there.iter().chain(&new[..at]) {
+                        let known = Sample { tag: known.tag, ..new[at] };
+                        assert_eq!(compared.load(&tables, with(line(known))), (5, at as u32));
+                    }
+                }
+            }
+        }
+    }
+    compared.print("lines refused");
+}
+
+/// Rows, and octant rows, that end at every position.
+#[test]
+fn rows_run_out() {
+    let mut compared = Compared::default();
+    for all in lists() {
+        for (there, new) in parts(&all) {
+            for tables in part_filled(&all, there) {
+                let bin = tables.set.clone().unwrap();
+                let (rows, octants) = (all.len(), bin.octant_rows());
+                for k in there.len()..=rows {
+                    let taken = (k - there.len()) as u32;
+                    let number = if k < rows { 6 } else { 0 };
+                    assert_eq!(compared.load(&tables.with_rows(k, octants), sheet(new)), (number, taken));
+                }
+                for k in bin.octants()..octants {
+                    assert_eq!(compared.load(&tables.with_rows(rows, k), sheet(new)).0, 7);
+                }
+            }
+        }
+    }
+    compared.print("rows run out");
+}
+
+/// Every combination of a line that is not good, a tag of the set, a tag of an earlier line, an end of the rows and
+/// an end of the octant rows, at each of five lines or nowhere.
+#[test]
+fn ties_of_every_kind() {
+    let mut compared = Compared::default();
+    const LINES: usize = 5;
+    for all in [tagged([[0; 3], [65_535; 3]].into_iter().chain(close_pairs(6, 14))), tagged(scattered(8, 15))] {
+        for (n, bucket) in [0, 1, 3].into_iter().flat_map(|n| [1, 2, 4].map(|bucket| (n, bucket))) {
+            let (there, new) = (&all[..n], &all[n..n + LINES]);
+            let mut ends: Vec<usize> = (n..=n + LINES).map(|k| exact(&all[..k], bucket).octants()).collect();
+            ends.dedup();
+            for k in 0..(LINES + 1).pow(3) {
+                let [bad, known, same] = [0, 1, 2].map(|i| k / (LINES + 1).pow(i) % (LINES + 1));
+                let mut samples = new.to_vec();
+                if known < LINES && n > 0 {
+                    samples[known].tag = there[known % n].tag;
+                }
+                if same < LINES && same > 0 {
+                    samples[same].tag = samples[same / 2].tag;
+                }
+                let mut lines: Vec<Vec<u8>> = samples.iter().map(|&sample| line(sample)).collect();
+                if bad < LINES {
+                    lines[bad][0] = b'x';
+                }
+                let sheet = good_sheet(&lines);
+                for rows in n..=n + LINES {
+                    for &octants in &ends {
+                        let words =
+                            Bin { sample_words: 2 + 5 * rows, octant_words: 1 + 11 * octants, ..exact(there, bucket) };
+                        compared.load(&Tables::of(words), sheet.clone());
+                    }
+                }
+            }
+        }
+    }
+    compared.print("ties of every kind");
+}
+
+/// Which of two refusals comes first.
+#[test]
+fn ties() {
+    let mut compared = Compared::default();
+    // With bucket size 1 the first two fill 3 octant rows; the third needs 15 more, the fourth no more than that.
+    let all = tagged([[0; 3], [65_535; 3], [0; 3], [0; 3]]);
+    let tables = |n: usize, rows: usize, octants: usize| Tables::of(exact(&all[..n], 1)).with_rows(rows, octants);
+    let bad = |at: usize, samples: &[Sample]| {
+        let mut sheet = sheet(samples);
+        sheet[HEADER + LINE * at] = b'x';
+        sheet
+    };
+    // A line that is not good, on full rows; and one with a known tag.
+    assert_eq!(compared.load(&tables(2, 2, 3), bad(0, &all[2..])), (12, 0));
+    assert_eq!(compared.load(&tables(2, 2, 3), sheet(&all[..2])), (5, 0));
+    assert_eq!(compared.load(&tables(1, 2, 3), bad(1, &all[1..])), (12, 1));
+    assert_eq!(compared.load(&tables(1, 2, 3), sheet(&[all[1], all[0]])), (5, 1));
+    // Full rows, where the octants would not do either.
+    assert_eq!(compared.load(&tables(2, 2, 3), sheet(&all[2..])), (6, 0));
+    assert_eq!(compared.load(&tables(0, 2, 3), sheet(&all)), (6, 2));
+    // A tag twice in one sheet: the second is refused.
+    assert_eq!(compared.load(&tables(0, 4, 18), sheet(&[all[0], all[1], all[0]])), (5, 2));
+    assert_eq!(compared.load(&tables(0, 2, 3), sheet(&[all[0], all[0], all[0]])), (5, 1));
+    // Octants that do not do at a line before one that is not good, or has a known tag, or finds no row.
+    assert_eq!(compared.load(&tables(0, 4, 17), bad(3, &all)), (7, 2));
+    assert_eq!(compared.load(&tables(0, 4, 17), sheet(&[all[0], all[1], all[2], all[0]])), (7, 2));
+    assert_eq!(compared.load(&tables(0, 3, 17), sheet(&all)), (7, 2));
+    // The same line: not good, and no octants for what it would be.
+    assert_eq!(compared.load(&tables(0, 4, 17), bad(2, &all)), (12, 2));
+    // With the octants that it lacked, all of them.
+    assert_eq!(compared.load(&tables(0, 4, 18), sheet(&all)), (0, 4));
+    // The tables before the header, and a header that is not good before its lines.
+    let mut unsound = tables(2, 2, 3);
+    unsound.octants[0] = 4;
+    assert_eq!(compared.load(&Tables::of_words(&unsound.samples, &unsound.octants), vec![]), (2, 0));
+    assert_eq!(compared.load(&Tables::of_words(&unsound.samples[..1], &unsound.octants), vec![]), (1, 0));
+    assert_eq!(compared.load(&tables(2, 2, 3), bad(0, &all)[1..].to_vec()), (11, 0));
+    compared.print("ties");
+}
+
+/// Tables to load two or three lines into: empty ones with rows and octant rows enough, and with one row.
+fn few_rows() -> [Tables; 2] {
+    [3, 1].map(|rows| Tables::of(straight_scan::start(2 + 5 * rows, 1 + 11 * 60, 1).unwrap()))
+}
+
+fn three_lines() -> Vec<Vec<u8>> {
+    vec![
+        line_of("7", ["0", "10", "65535"], "A001"),
+        line_of("4294967295", ["65535", "999", "1000"], LONG_NAME),
+        line_of("0", ["9", "65535", "0"], "~"),
+    ]
+}
+
+/// Every byte of a sheet changed to every other.
+#[test]
+fn every_byte_changed() {
+    let mut compared = Compared::default();
+    let sheet = good_sheet(&three_lines()[..2]);
+    for (at, byte) in (0..sheet.len()).flat_map(|at| (0..=255).map(move |byte| (at, byte))) {
+        let mut altered = sheet.clone();
+        altered[at] = byte;
+        compared.load(&few_rows()[0], altered);
+    }
+    compared.print("every byte changed");
+}
+
+/// Headers and lengths that do not fit together, headers that are not good, sheets with no lines.
+#[test]
+fn headers() {
+    let mut compared = Compared::default();
+    let lines = three_lines();
+    let whole = good_sheet(&lines);
+    for tables in few_rows() {
+        for n in 0..=lines.len() {
+            for count in
+                (0..=lines.len() + 1).map(|n| n.to_string()).chain(["", "03", "3 ", "+3", "-0", "x"].map(String::from))
+            {
+                let number = compared.load(&tables, sheet_of(&count, &lines[..n])).0;
+                assert_eq!(number == 11, count != n.to_string());
+            }
+        }
+        for at in 0..whole.len() {
+            assert_eq!(compared.load(&tables, whole[..at].to_vec()), (11, 0));
+            assert_eq!(compared.load(&tables, [&whole[..at], b" ", &whole[at..]].concat()), (11, 0));
+            compared.load(&tables, whole[at + 1..].to_vec());
+        }
+        for byte in 0..=255 {
+            assert_eq!(compared.load(&tables, [&whole[..], &[byte]].concat()), (11, 0));
+        }
+        assert_eq!(compared.load(&tables, b"SWATCHES     0\n".to_vec()), (0, 0));
+        assert_eq!(compared.load(&tables, vec![]), (11, 0));
+    }
+    // Sheets with no lines change nothing, also where no row is left.
+    for bin in small_sets().iter().flat_map(|samples| SIZES.map(|bucket| exact(samples, bucket))) {
+        assert_eq!(compared.load(&Tables::of(bin), good_sheet(&[])), (0, 0));
+    }
+    compared.print("headers");
+}
+
+/// More lines than rows, up to the most that a header can say.
+#[test]
+fn sheets_longer_than_tables() {
+    let mut compared = Compared::default();
+    for count in [999, 9_999, 99_999, 999_999] {
+        let lines: Vec<Vec<u8>> = (0..count).map(|k| line_of(k, [k % 65_536, 0, 0], "A001")).collect();
+        for tables in few_rows() {
+            let rows = tables.set.as_ref().unwrap().sample_rows();
+            assert_eq!(compared.load(&tables, good_sheet(&lines)), (6, rows as u32));
+        }
+    }
+    compared.print("sheets longer than tables");
+}
+
+// Tables that are not sound, and those that are too short.
+
+/// Calls of each kind, with arguments that would be taken and ones that would not.
+fn each_call(samples: &[u32], state: &mut u64) -> [Call; 3] {
+    let tag = |state: &mut u64| match samples.get(2) {
+        Some(&tag) if below(2, state) == 0 => tag,
+        _ => random(state) as u32,
+    };
+    let code = any_of(&[0, 65_535, 65_536], state);
+    let sheets = [good_sheet(&[]), good_sheet(&[line_of(tag(state), [1, 2, 3], "A001")]), b"SWATCHES".to_vec()];
+    let sheet = sheets[below(3, state)].clone();
+    [Call::Add(tag(state), [1, 2, code]), Call::Remove(tag(state)), Call::Load(sheet)]
+}
+
+/// Sees damaged tables: the calls that change sets all give 2 and change nothing, unless they are sound again.
+fn seeing<'a>(compared: &'a mut Compared, state: &'a mut u64) -> impl FnMut(&[u32], &[u32]) + 'a {
+    move |samples, octants| {
+        let tables = Tables::of_words(samples, octants);
+        for call in each_call(samples, state) {
+            let answer = compared.ask(&tables, &call);
+            assert!(tables.set.is_ok() || answer.0 <= 2 && answer.1 == 0);
+        }
+    }
+}
+
+/// Each kind of damage, to sets with each of the bucket sizes of these tests; of the words, every step-th.
+fn damaged(compared: &mut Compared, step: usize, mut state: u64) {
+    let bins: Vec<Bin> = small_sets().iter().flat_map(|samples| SIZES.map(|bucket| exact(samples, bucket))).collect();
+    let mut state_of_tags = random(&mut state);
+    let see = &mut seeing(compared, &mut state);
+    for bin in bins.iter().filter(|bin| bin.octant_words < 800) {
+        damage::words_changed(&longer(bin, 5 + 3, 11 + 7), step, see);
+        damage::rows_swapped(bin, see);
+        damage::children_swapped(bin, see);
+        damage::tables_cut(bin, see);
+    }
+    for bin in &bins {
+        damage::zeros_broken(bin, see);
+        damage::counts_changed(bin, see);
+        damage::equal_tags(bin, &mut state_of_tags, see);
+        damage::rows_left(bin, see);
+    }
+    small_sets().iter().for_each(|samples| damage::codes_past_the_end(samples, see));
+    damage::mixed(&bins, 5 * step, see);
+}
+
+#[test]
+fn damaged_tables() {
+    let mut compared = Compared::default();
+    damaged(&mut compared, 11, 21);
+    compared.print("damaged tables");
+}
+
+/// Damage to tables of some hundreds of samples to 4,096; of the words, every step-th or so.
+fn damaged_large(compared: &mut Compared, step: usize, mut state: u64) {
+    let see = &mut seeing(compared, &mut state);
+    damage::words_changed(&exact(&tagged(scattered(300, 23)), 2), step, see);
+    damage::words_changed(&exact(&tagged(clustered(1_000, 5, 300, 24)), 16), 2 * step + 1, see);
+    damage::words_changed(&exact(&tagged(scattered(MOST, 25)), 16), 9 * step + 2, see);
+    damage::words_changed(&exact(&tagged([[65_535; 3]; MOST]), 256), 20 * step + 1, see);
+    damage::equal_tags(&exact(&tagged(scattered(MOST, 26)), 16), &mut 27, see);
+}
+
+#[test]
+fn damaged_large_tables() {
+    let mut compared = Compared::default();
+    damaged_large(&mut compared, 211, 22);
+    compared.print("damaged large tables");
+}
+
+/// A few edits at once, and any words.
+fn edited(compared: &mut Compared, tries: usize, mut state: u64) {
+    let tables: Vec<Both> = small_sets()
+        .iter()
+        .flat_map(|samples| SIZES.map(|bucket| Both::of(&longer(&exact(samples, bucket), 5, 11))))
+        .collect();
+    let mut edits = random(&mut state);
+    let see = &mut seeing(compared, &mut state);
+    for _ in 0..tries {
+        damage::edited(tables[below(tables.len(), &mut edits)].clone(), &mut edits, see);
+        let (n, m) = (below(40, &mut edits), below(60, &mut edits));
+        see(&any_words(n, &mut edits), &any_words(m, &mut edits));
+    }
+}
+
+#[test]
+fn edited_tables() {
+    let mut compared = Compared::default();
+    edited(&mut compared, 20_000, 28);
+    compared.print("edited tables");
+}
+
+/// Every pair of lengths that is too short, or just long enough, with words that may be a set's.
+#[test]
+fn short_tables() {
+    let mut compared = Compared::default();
+    let mut state = 29;
+    for (n, m) in (0..4).flat_map(|n| (0..14).map(move |m| (n, m))) {
+        for round in 0..20 {
+            let word = |state: &mut u64| if round == 0 { 0 } else { below(3, state) as u32 };
+            let samples: Vec<u32> = (0..n).map(|at| if at == 1 { 16 } else { word(&mut state) }).collect();
+            let octants: Vec<u32> = (0..m).map(|_| word(&mut state)).collect();
+            let tables = Tables::of_words(&samples, &octants);
+            for call in each_call(&samples, &mut state) {
+                let number = compared.ask(&tables, &call).0;
+                assert_eq!(number == 1, n < 2 || m < 1);
+            }
+        }
+    }
+    compared.print("short tables");
+}
+
+// 4,096 rows.
+
+/// Tables with more words than 4,096 rows have: exactly those rows are used. Bucket size 256, where the straight
+/// scan is quick.
+#[test]
+fn most_rows() {
+    let mut compared = Compared::default();
+    let samples = tagged(scattered(MOST + 3, 31));
+    for words in [0, 1, 4, 5, 5 + 3, 5 * 100] {
+        let bin = |n: usize| longer(&exact(&samples[..n], 256), 5 * (MOST - n) + words, 11 * 50);
+        let mut tables = Tables::of(bin(MOST - 1));
+        let add = |i: usize| Call::Add(samples[i].tag, samples[i].codes);
+        assert_eq!(compared.load(&tables, sheet(&samples[MOST - 1..])), (6, 1));
+        assert_eq!(compared.call(&mut tables, &add(MOST - 1)), (0, 0));
+        assert_eq!(compared.call(&mut tables, &add(MOST)), (6, 0));
+        assert_eq!(compared.call(&mut tables, &add(7)), (5, 0));
+        assert_eq!(compared.load(&tables, sheet(&samples[MOST..])), (6, 0));
+        assert_eq!(compared.load(&tables, sheet(&samples[9..10])), (5, 0));
+        for row in [0, MOST / 2, MOST - 1] {
+            let tag = tables.set.as_ref().unwrap().samples[row].tag;
+            assert_eq!(compared.call(&mut tables, &Call::Remove(tag)), (0, 0));
+            assert_eq!(compared.call(&mut tables, &Call::Add(tag, [row as u32; 3])), (0, 0));
+            assert_eq!(compared.call(&mut tables, &add(MOST)), (6, 0));
+        }
+    }
+    compared.print("most rows");
+}
+
+/// Whole sheets, up to more lines than there can be rows, into empty tables. Bucket size 256, where the straight scan
+/// is quick, which builds a tree for each line.
+#[test]
+fn whole_sheets() {
+    let mut compared = Compared::default();
+    let samples = tagged(scattered(MOST + 3, 32));
+    let empty =
+        |rows: usize, octants: usize| Tables::of(straight_scan::start(2 + 5 * rows, 1 + 11 * octants, 256).unwrap());
+    assert_eq!(compared.load(&empty(MOST, 100), sheet(&samples[..MOST])), (0, MOST as u32));
+    assert_eq!(compared.load(&empty(MOST + 9, 100), sheet(&samples)), (6, MOST as u32));
+    let mut twice = samples.clone();
+    twice[MOST].tag = twice[MOST - 1].tag;
+    assert_eq!(compared.load(&empty(MOST + 9, 100), sheet(&twice)), (5, MOST as u32));
+    for again in [1, MOST / 2 + 1, MOST - 1] {
+        let mut twice = samples[..MOST].to_vec();
+        twice[again].tag = twice[again / 3].tag;
+        assert_eq!(compared.load(&empty(MOST, 100), sheet(&twice)), (5, again as u32));
+    }
+    for octants in [1, 2, 30, 60] {
+        assert_eq!(compared.load(&empty(MOST, octants), sheet(&samples[..MOST])).0, 7);
+    }
+    // Tags that are the same but for their highest digits.
+    let high = |i: usize| Sample { tag: (i as u32) << 20, ..samples[i] };
+    let high: Vec<Sample> = (0..MOST).map(high).collect();
+    assert_eq!(compared.load(&empty(MOST, 100), sheet(&high)), (0, MOST as u32));
+    compared.print("whole sheets");
+}
+
+/// The calls stay within the stack that the header says, on the deepest tree, with tags that part last: they run in a
+/// thread that has little more, and one that took more would end the test.
+#[test]
+fn within_the_stack() {
+    const STACK: usize = 80_000;
+    let colours = close_pairs(MOST, 36).into_iter().take(MOST).enumerate();
+    let samples: Vec<Sample> = colours.map(|(i, codes)| Sample { tag: (i as u32) << 20, codes }).collect();
+    let (last, first, known) = (samples.len() - 1, samples[0].tag, samples[1].tag);
+    let (most, again) = (sheet(&samples[..last]), sheet(&samples[last..]));
+    let (mut s, mut o) = (vec![0; 2 + 5 * MOST], vec![0; 1 + 11 * 17 * MOST]);
+    let run = move || {
+        assert_eq!(hubeltxa::clear(&mut s, &mut o, 1), Ok(()));
+        assert_eq!(hubeltxa::load(&mut s, &mut o, &most), Ok(last as u32));
+        assert_eq!(hubeltxa::add(&mut s, &mut o, known, [0; 3]), Err(5));
+        assert_eq!(hubeltxa::add(&mut s, &mut o, 1, [0; 3]), Ok(()));
+        assert_eq!(hubeltxa::remove(&mut s, &mut o, 1), Ok(()));
+        assert_eq!(hubeltxa::load(&mut s, &mut o, &again), Ok(1));
+        assert!(hubeltxa::load(&mut s, &mut o, &again).is_err());
+        assert_eq!(hubeltxa::remove(&mut s, &mut o, first), Ok(()));
+        assert!(hubeltxa::load(&mut s, &mut o, &most).is_err());
+        assert!(hubeltxa::check(&s, &o));
+    };
+    let thread = std::thread::Builder::new().stack_size(STACK + 16_384);
+    thread.spawn(run).unwrap().join().unwrap();
+}
+
+// Long.
+
+#[test]
+#[ignore = "long: many sequences of calls"]
+fn call_sequences_long() {
+    let mut compared = Compared::default();
+    (0..60).for_each(|seed| sequences(&mut compared, 120, 150, 1_000 + seed));
+    compared.print_all_seen("call sequences, long");
+}
+
+#[test]
+#[ignore = "long: many sequences of calls on large sets"]
+fn call_sequences_on_large_sets_long() {
+    let mut compared = Compared::default();
+    (0..20).for_each(|seed| large_sequences(&mut compared, 16, 60, 2_000 + seed));
+    compared.print_all_seen("call sequences on large sets, long");
+}
+
+#[test]
+#[ignore = "long: every kind of damage"]
+fn damaged_tables_long() {
+    let mut compared = Compared::default();
+    damaged(&mut compared, 1, 3_000);
+    damaged_large(&mut compared, 20, 3_010);
+    (0..5).for_each(|seed| edited(&mut compared, 100_000, 3_001 + seed));
+    compared.print("damaged tables, long");
+}
+
+/// Whole sheets of each kind of colour, with each bucket size, in tables just long enough, one octant row short, and
+/// with the octant rows of half.
+#[test]
+#[ignore = "long: whole sheets of 4,096 lines"]
+fn whole_sheets_long() {
+    let mut compared = Compared::default();
+    for colours in [scattered(MOST, 33), clustered(MOST, 12, 5_000, 34), close_pairs(MOST, 35)] {
+        let samples = tagged(colours);
+        for bucket in [1, 16, 256] {
+            let whole = exact(&samples, bucket);
+            let empty = Tables::of(Bin { samples: vec![], ..whole.clone() });
+            assert_eq!(compared.load(&empty, sheet(&samples)), (0, MOST as u32));
+            let octants = whole.octant_rows();
+            assert_eq!(compared.load(&empty.with_rows(MOST, octants - 1), sheet(&samples)).0, 7);
+            let half = exact(&samples[..MOST / 2], bucket).octant_rows();
+            assert_eq!(compared.load(&empty.with_rows(MOST, half), sheet(&samples)).0, 7);
+        }
+    }
+    compared.print("whole sheets, long");
+}

@@ -1,0 +1,186 @@
+//! Calls that change tables, compared with the straight scan one by one, and counted.
+
+use crate::lent::Lent;
+use crate::sets::shown;
+use crate::straight_scan::{self, Bin, Call};
+use hubeltxa::{raw, RefusedLoad};
+
+/// What a call answers: its number, and how many lines were taken (0 but of a load).
+pub type Answer = (u32, u32);
+
+/// Two tables, and the set that the straight scan has in them, or the number of the first question of 1 and 2
+/// that they answer with no.
+#[derive(Clone)]
+pub struct Tables {
+    pub samples: Vec<u32>,
+    pub octants: Vec<u32>,
+    pub set: Result<Bin, u32>,
+}
+
+impl Tables {
+    /// The tables of a set.
+    pub fn of(bin: Bin) -> Self {
+        let (samples, octants) = bin.tables();
+        Tables { samples, octants, set: Ok(bin) }
+    }
+
+    /// Any words.
+    pub fn of_words(samples: &[u32], octants: &[u32]) -> Self {
+        let short = samples.len() < 2 || octants.is_empty();
+        let set = straight_scan::bin_of(samples, octants).ok_or(if short { 1 } else { 2 });
+        Tables { samples: samples.to_vec(), octants: octants.to_vec(), set }
+    }
+
+    /// The tables of the same set with so many rows.
+    pub fn with_rows(&self, sample_rows: usize, octant_rows: usize) -> Self {
+        let words = |bin: Bin| Bin { sample_words: 2 + 5 * sample_rows, octant_words: 1 + 11 * octant_rows, ..bin };
+        Tables::of(words(self.set.clone().unwrap()))
+    }
+
+    /// What the straight scan answers; the tables become those that it leaves.
+    fn scan(&mut self, call: &Call) -> Answer {
+        if let Call::Clear(bucket) = call {
+            return match straight_scan::start(self.samples.len(), self.octants.len(), *bucket) {
+                Ok(bin) => {
+                    *self = Tables::of(bin);
+                    (0, 0)
+                }
+                Err(number) => (number, 0),
+            };
+        }
+        let bin = match &mut self.set {
+            Ok(bin) => bin,
+            Err(number) => return (*number, 0),
+        };
+        let answer = bin.call(call);
+        if answer.number == 0 || answer.taken > 0 {
+            (self.samples, self.octants) = bin.tables();
+        }
+        (answer.number, answer.taken)
+    }
+}
+
+/// The C function, on guarded words and bytes, and on a word for the lines taken that holds something else and
+/// has neighbours. Gives the answer and both tables as left.
+fn library(tables: &Tables, call: &Call) -> (Answer, Vec<u32>, Vec<u32>) {
+    const HELD: u32 = 0xA5A5_A5A5;
+    let mut words = [HELD; 3];
+    let mut text = Lent::new(if let Call::Load(sheet) = call { sheet } else { &[] });
+    let (mut samples, mut octants) = (Lent::new(&tables.samples), Lent::new(&tables.octants));
+    let number = {
+        let (s, o, t) = (samples.within(), octants.within(), text.within());
+        let (s, s_len, o, o_len) = (s.as_mut_ptr(), s.len(), o.as_mut_ptr(), o.len());
+        unsafe {
+            match call {
+                Call::Clear(bucket) => raw::hbx_clear(s, s_len, o, o_len, *bucket),
+                Call::Add(tag, [red, green, blue]) => raw::hbx_add(s, s_len, o, o_len, *tag, *red, *green, *blue),
+                Call::Remove(tag) => raw::hbx_remove(s, s_len, o, o_len, *tag),
+                Call::Load(_) => raw::hbx_load(s, s_len, o, o_len, t.as_ptr(), t.len(), &mut words[1]),
+                Call::Pick(..) => unreachable!(),
+            }
+        }
+    };
+    assert_eq!([words[0], words[2]], [HELD; 2], "a word beside the lines taken is written");
+    let taken = if let Call::Load(sheet) = call {
+        assert!(text.left() == Some(sheet), "the sheet or what is beside it is changed");
+        words[1]
+    } else {
+        0
+    };
+    let words = |lent: &mut Lent<u32>| lent.left().expect("words beside the tables are written").to_vec();
+    ((number, taken), words(&mut samples), words(&mut octants))
+}
+
+fn wrapper(tables: &Tables, call: &Call) -> (Answer, Vec<u32>, Vec<u32>) {
+    let (mut s, mut o) = (tables.samples.clone(), tables.octants.clone());
+    let plain = |result: Result<(), u32>| (result.err().unwrap_or(0), 0);
+    let answer = match call {
+        Call::Clear(bucket) => plain(hubeltxa::clear(&mut s, &mut o, *bucket)),
+        Call::Add(tag, codes) => plain(hubeltxa::add(&mut s, &mut o, *tag, *codes)),
+        Call::Remove(tag) => plain(hubeltxa::remove(&mut s, &mut o, *tag)),
+        Call::Load(sheet) => match hubeltxa::load(&mut s, &mut o, sheet) {
+            Ok(taken) => (0, taken),
+            Err(RefusedLoad { number, taken }) => (number, taken),
+        },
+        Call::Pick(..) => unreachable!(),
+    };
+    (answer, s, o)
+}
+
+/// The calls, and the numbers that each can give.
+const CALLS: [(&str, &[usize]); 4] = [
+    ("clear", &[0, 1, 3]),
+    ("add", &[0, 1, 2, 4, 5, 6, 7]),
+    ("remove", &[0, 1, 2, 8]),
+    ("load", &[0, 1, 2, 5, 6, 7, 11, 12]),
+];
+
+fn place(call: &Call) -> usize {
+    match call {
+        Call::Clear(_) => 0,
+        Call::Add(..) => 1,
+        Call::Remove(_) => 2,
+        Call::Load(_) => 3,
+        Call::Pick(..) => unreachable!(),
+    }
+}
+
+/// A call and the tables that it is given, for a message.
+fn message(tables: &Tables, call: &Call) -> String {
+    let call = match call {
+        Call::Load(sheet) => format!("load of \"{}\"", sheet[..sheet.len().min(400)].escape_ascii()),
+        _ => format!("{call:?}"),
+    };
+    format!("{call} on {}", shown(&tables.samples, &tables.octants))
+}
+
+/// Calls that were compared, by call and number.
+#[derive(Default)]
+pub struct Compared([[usize; 13]; 4]);
+
+impl Compared {
+    /// The one comparison: every call goes through it. The library's and the wrapper's answers and every word
+    /// of both tables are the straight scan's. The tables become those that the call leaves.
+    pub fn call(&mut self, tables: &mut Tables, call: &Call) -> Answer {
+        let before = tables.clone();
+        let answer = tables.scan(call);
+        for (whose, run) in [("library", library as fn(&_, &_) -> _), ("wrapper", wrapper)] {
+            let (given, samples, octants) = run(&before, call);
+            assert_eq!(given, answer, "the {whose}'s answer: {}", message(&before, call));
+            assert!(samples == tables.samples, "the {whose}'s sample table: {}", message(&before, call));
+            assert!(octants == tables.octants, "the {whose}'s octant table: {}", message(&before, call));
+        }
+        self.0[place(call)][answer.0 as usize] += 1;
+        answer
+    }
+
+    /// The same, and the tables stay as they are for the next call.
+    pub fn ask(&mut self, tables: &Tables, call: &Call) -> Answer {
+        self.call(&mut tables.clone(), call)
+    }
+
+    /// A load of a sheet on tables that stay.
+    pub fn load(&mut self, tables: &Tables, sheet: Vec<u8>) -> Answer {
+        self.ask(tables, &Call::Load(sheet))
+    }
+
+    /// Prints how many calls were compared.
+    pub fn print(&self, what: &str) {
+        println!("{what}: {} calls", self.0.iter().flatten().sum::<usize>());
+        for ((name, numbers), counts) in CALLS.iter().zip(self.0) {
+            let seen = numbers.iter().filter(|&&number| counts[number] > 0);
+            let each: Vec<String> = seen.map(|&number| format!("{number}: {}", counts[number])).collect();
+            if !each.is_empty() {
+                println!("  {name:<8}{:>9}   by number {}", counts.iter().sum::<usize>(), each.join(", "));
+            }
+        }
+    }
+
+    /// The same, where every number was seen of every call that can give it.
+    pub fn print_all_seen(&self, what: &str) {
+        self.print(what);
+        for ((name, numbers), counts) in CALLS.iter().zip(self.0) {
+            numbers.iter().for_each(|&number| assert!(counts[number] > 0, "{what}: no {name} gave {number}"));
+        }
+    }
+}

@@ -1,0 +1,209 @@
+//! Tables damaged in each way that the tests know, shown to a function one pair after the other.
+//!
+//! Where a comment says so, no pair is sound; elsewhere one may be, as when two equal words change places.
+
+#![allow(dead_code)]
+
+use crate::random::*;
+use crate::sets::*;
+use crate::straight_scan::{Bin, Sample};
+
+/// Both tables as one list of words, that one place can name any of them.
+#[derive(Clone)]
+pub struct Both {
+    pub words: Vec<u32>,
+    pub samples: usize,
+}
+
+impl Both {
+    pub fn of(bin: &Bin) -> Self {
+        let (samples, octants) = bin.tables();
+        Both { words: [&samples[..], &octants[..]].concat(), samples: samples.len() }
+    }
+
+    pub fn show<R>(&self, see: impl FnOnce(&[u32], &[u32]) -> R) -> R {
+        let (samples, octants) = self.words.split_at(self.samples);
+        see(samples, octants)
+    }
+
+    /// Shows them with another word in one place.
+    pub fn with<R>(&mut self, at: usize, word: u32, see: impl FnOnce(&[u32], &[u32]) -> R) -> R {
+        let held = std::mem::replace(&mut self.words[at], word);
+        let seen = self.show(see);
+        self.words[at] = held;
+        seen
+    }
+
+    /// Shows them with the words of two parts exchanged.
+    fn swapped(&mut self, one: usize, other: usize, size: usize, see: &mut impl FnMut(&[u32], &[u32])) {
+        let swap = |words: &mut [u32]| (0..size).for_each(|i| words.swap(one + i, other + i));
+        swap(&mut self.words);
+        self.show(see);
+        swap(&mut self.words);
+    }
+
+    /// Where each row of a table starts.
+    fn sample_rows(&self) -> Vec<usize> {
+        (0..self.words[0] as usize).map(|i| 2 + 5 * i).collect()
+    }
+
+    fn octant_rows(&self) -> Vec<usize> {
+        (0..self.words[self.samples] as usize).map(|i| self.samples + 1 + 11 * i).collect()
+    }
+}
+
+/// Every pair of two different ones.
+fn pairs(of: &[usize]) -> Vec<(usize, usize)> {
+    of.iter().enumerate().flat_map(|(i, &x)| of[..i].iter().map(move |&y| (y, x))).collect()
+}
+
+/// Each of the usual wrong words in every step-th place: one up and one down, 0, the greatest, the first
+/// number that is no code, the highest bit turned.
+pub fn words_changed(bin: &Bin, step: usize, see: &mut impl FnMut(&[u32], &[u32])) {
+    let mut both = Both::of(bin);
+    for at in (0..both.words.len()).step_by(step) {
+        let word = both.words[at];
+        let (up, down) = (word.wrapping_add(1), word.wrapping_sub(1));
+        for wrong in [up, down, 0, u32::MAX, 65_536, word ^ 1 << 31] {
+            if wrong != word {
+                both.with(at, wrong, &mut *see);
+            }
+        }
+    }
+}
+
+/// A word that is not 0 in each place where 0 belongs: past the rows in use, and past the last row. Never
+/// sound.
+pub fn zeros_broken(bin: &Bin, see: &mut impl FnMut(&[u32], &[u32])) {
+    let mut both = Both::of(&longer(bin, 2 * 5 + 3, 2 * 11 + 7));
+    let tails = (bin.sample_words..both.samples).chain(both.samples + bin.octant_words..both.words.len());
+    for at in tails {
+        [1, 1 << 16, u32::MAX].iter().for_each(|&word| both.with(at, word, &mut *see));
+    }
+}
+
+/// Either table cut at every length.
+pub fn tables_cut(bin: &Bin, see: &mut impl FnMut(&[u32], &[u32])) {
+    let (samples, octants) = longer(bin, 3, 3).tables();
+    (0..samples.len()).for_each(|n| see(&samples[..n], &octants));
+    (0..octants.len()).for_each(|n| see(&samples, &octants[..n]));
+}
+
+/// Other counts of samples and of octants. Never sound.
+pub fn counts_changed(bin: &Bin, see: &mut impl FnMut(&[u32], &[u32])) {
+    let mut both = Both::of(&longer(bin, 5, 11));
+    for at in [0, both.samples] {
+        let count = both.words[at];
+        let others = (0..count + 4).chain([4_095, 4_096, 4_097, 1 << 16, 1 << 31, u32::MAX - 1, u32::MAX]);
+        others.filter(|&wrong| wrong != count).for_each(|wrong| both.with(at, wrong, &mut *see));
+    }
+}
+
+/// Every two rows exchanged (of octants, every third pair); of sample rows also without their next words, and
+/// the next words alone.
+pub fn rows_swapped(bin: &Bin, see: &mut impl FnMut(&[u32], &[u32])) {
+    let mut both = Both::of(bin);
+    for (one, other) in pairs(&both.sample_rows()) {
+        both.swapped(one, other, 5, see);
+        both.swapped(one, other, 4, see);
+        both.swapped(one + 4, other + 4, 1, see);
+    }
+    for (one, other) in pairs(&both.octant_rows()).into_iter().step_by(3) {
+        both.swapped(one, other, 11, see);
+    }
+}
+
+/// Every two words of an octant row exchanged.
+pub fn children_swapped(bin: &Bin, see: &mut impl FnMut(&[u32], &[u32])) {
+    let mut both = Both::of(bin);
+    for row in both.octant_rows() {
+        let words: Vec<usize> = (row..row + 11).collect();
+        pairs(&words).into_iter().for_each(|(one, other)| both.swapped(one, other, 1, see));
+    }
+}
+
+/// Tables that are right but for two samples with one tag. Never sound.
+pub fn equal_tags(bin: &Bin, state: &mut u64, see: &mut impl FnMut(&[u32], &[u32])) {
+    let n = bin.samples.len();
+    if n < 2 {
+        return;
+    }
+    let some = (0..10).map(|_| (below(n, state), below(n, state)));
+    for (i, j) in [(0, 1), (0, n - 1), (n - 2, n - 1)].into_iter().chain(some).filter(|(i, j)| i != j) {
+        let mut same = bin.clone();
+        same.samples[i].tag = same.samples[j].tag;
+        Both::of(&same).show(&mut *see);
+    }
+}
+
+/// Codes past the end in tables that are otherwise right: the root is not split, so no octant asks them. Never
+/// sound.
+pub fn codes_past_the_end(samples: &[Sample], see: &mut impl FnMut(&[u32], &[u32])) {
+    for (i, channel) in (0..samples.len()).flat_map(|i| [0, 1, 2].map(|h| (i, h))) {
+        for code in [65_536, 65_537, 1 << 17, 1 << 31, u32::MAX] {
+            let mut bin = exact(samples, 256);
+            bin.samples[i].codes[channel] = code;
+            Both::of(&bin).show(&mut *see);
+        }
+    }
+}
+
+/// The tables without the last sample but with its row left where it was, or a word of it. Never sound.
+pub fn rows_left(bin: &Bin, see: &mut impl FnMut(&[u32], &[u32])) {
+    let Some(n) = bin.samples.len().checked_sub(1) else { return };
+    let before = Both::of(bin).words;
+    let mut both = Both::of(&Bin { samples: bin.samples[..n].to_vec(), ..bin.clone() });
+    let row = 2 + 5 * n..7 + 5 * n;
+    for at in row.clone().filter(|&at| before[at] != 0) {
+        both.with(at, before[at], &mut *see);
+    }
+    both.words[row.clone()].copy_from_slice(&before[row]);
+    both.show(see);
+}
+
+/// A few edits at once: words set, moved, copied and turned, rows copied.
+pub fn edited(mut both: Both, state: &mut u64, see: &mut impl FnMut(&[u32], &[u32])) {
+    let n = both.words.len();
+    for _ in 0..1 + below(3, state) {
+        let (at, from) = (below(n, state), below(n, state));
+        match below(6, state) {
+            0 => both.words[at] = random(state) as u32,
+            1 => both.words[at] = below(40, state) as u32,
+            2 => both.words[at] = both.words[from],
+            3 => both.words.swap(at, from),
+            4 => both.words[at] ^= 1 << below(32, state),
+            _ => {
+                let size = any_of(&[2, 5, 11], state).min(n - at.max(from));
+                both.words.copy_within(from..from + size, at);
+            }
+        }
+    }
+    both.show(see);
+}
+
+/// The sample table of one set with the octant table of another: other bucket sizes, other sets, the same
+/// samples in another sequence. Every step-th pair.
+pub fn mixed(bins: &[Bin], step: usize, see: &mut impl FnMut(&[u32], &[u32])) {
+    let same_length = |bin: &Bin| Bin { sample_words: 2 + 5 * 64, octant_words: 1 + 11 * 700, ..bin.clone() };
+    let tables: Vec<_> = bins.iter().map(|bin| same_length(bin).tables()).collect();
+    for (i, (samples, _)) in tables.iter().enumerate() {
+        tables.iter().skip(i % step).step_by(step).for_each(|(_, octants)| see(samples, octants));
+    }
+    for bin in bins {
+        let mut turned = bin.clone();
+        turned.samples.reverse();
+        let ((samples, octants), (samples_turned, octants_turned)) = (bin.tables(), turned.tables());
+        see(&samples, &octants_turned);
+        see(&samples_turned, &octants);
+    }
+}
+
+/// Small numbers and random ones for words.
+pub fn any_words(length: usize, state: &mut u64) -> Vec<u32> {
+    let word = |state: &mut u64| match random(state) >> 62 {
+        0 => random(state) as u32,
+        1 => any_of(&[0, 1, 2, 16, 256, 257, 4_096, 65_535, 65_536, u32::MAX], state),
+        _ => below(4, state) as u32,
+    };
+    (0..length).map(|_| word(state)).collect()
+}
