@@ -1,5 +1,5 @@
 -- Codes, colours and their distance (document 01, "Colours and octants"; d² from "Picks").
-use Prim.Native.Nat.{ℕ, _+_, _-_, _*_, _^_, _≤_}
+use Prim.Native.Nat.{ℕ, _+_, _-_, _*_, _%_, _^_, _≤_}
 use mathlib.Core.Bool.{Bool, _&&_}
 use lib.Dec.{leb, ltb}
 use Rattle.colour.specs.declared.Colour.{Colour}
@@ -45,6 +45,10 @@ pub record InRange (c : Colour) : Type 0 where
   pub red : c .red ≤ 65535
   pub green : c .green ≤ 65535
   pub blue : c .blue ≤ 65535
+
+-- A colour of any three words, each brought into range; a colour in range stays as it is (`wrapped-same` of proofs/Laws/Channels.antt).
+unfoldable pub wrapped : Colour → Colour
+wrapped c = colourBy (λ h. codeIn h c % 65536)
 
 -- The colour with the code 0 in each channel.
 unfoldable pub black : Colour

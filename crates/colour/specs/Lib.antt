@@ -4,6 +4,8 @@ pub mod Octant
 pub mod Key
 pub mod Panel
 pub mod Region
+pub mod Mask
+pub mod Steps
 pub mod Query
 pub mod Question
 pub mod Computes

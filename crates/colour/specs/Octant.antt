@@ -1,6 +1,7 @@
 -- Octants (document 01, "Colours and octants"). An octant is given by its side s, or by j where the side is 2 ^ j, and its least colour.
 use Prim.Native.Nat.{ℕ, suc, _+_, _-_, _*_, _/_, _%_, _^_, _≤_, _<_}
 use mathlib.Core.Bool.{Bool, _&&_}
+use mathlib.Core.Path.{_≡_}
 use lib.Dec.{leb, ltb}
 use Rattle.colour.specs.declared.Colour.{Colour}
 use Rattle.colour.specs.declared.Cube.{Cube}
@@ -51,13 +52,14 @@ pub data Octant : ℕ → Colour → Type 0 where
 
 -- The cubes that stand for octants in the functions: child k of a cube, and the root.
 unfoldable pub childCube : Cube → ℕ → Cube
-childCube c k = record { low = childLow (sideAt (suc (c .depth))) k (c .low); depth = suc (c .depth) }
+childCube c k = record { low = childLow (sideAt (suc (c .depth))) k (c .low); depth = suc (c .depth); side = sideAt (suc (c .depth)) }
 
 -- The root: all colours, depth 0.
 unfoldable pub rootCube : Cube
-rootCube = record { low = black; depth = 0 }
+rootCube = record { low = black; depth = 0; side = sideAt 0 }
 
--- A cube that lies within the root: what the functions ask of a cube.
+-- A cube that lies within the root and has the side of its depth: what the functions ask of a cube.
 pub record Within (c : Cube) : Type 0 where
   pub depth : c .depth ≤ depths
-  pub low : (h : Channel) → codeIn h (c .low) + sideAt (c .depth) ≤ 65536
+  pub sized : c .side ≡ sideAt (c .depth)
+  pub low : (h : Channel) → codeIn h (c .low) + c .side ≤ 65536

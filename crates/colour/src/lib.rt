@@ -1,10 +1,14 @@
 // Colours, octant cubes, Morton keys, and panel floats to codes and back.
-// The types that every crate shares are declared here.
+// The types that every crate shares are declared here, and how any three words are brought into range.
 pub mod distance;
+pub mod mask;
 pub mod morton;
 pub mod octant;
 pub mod overlap;
 pub mod panel;
+
+ghost use mathlib.Core.Path.{_≡_};
+ghost use Rattle.colour.specs.Colour.{wrapped, InRange};
 
 // A colour: red, green and blue codes. The words are wider than a code, so that a code out of range can be passed and refused.
 pub struct Colour {
@@ -39,8 +43,21 @@ pub enum Region {
     Box(Colour, Colour),
 }
 
-// An octant as a cube of colours: its least colour, and its depth, which gives its side.
+// An octant as a cube of colours: its least colour, its depth, and its side, which goes with it so that it is looked up once.
 pub struct Cube {
     pub low: Colour,
     pub depth: u32,
+    pub side: u32,
+}
+
+// A colour of any three words, each brought into range.
+pub fn wrapped(c: Colour) -> Colour
+    ensures is { λ r. ⌜ r ≡ wrapped c ⌝ }
+    ensures ranged { λ r. ⌜ InRange r ⌝ }
+{
+    Colour {
+        red: c.red % 65536,
+        green: c.green % 65536,
+        blue: c.blue % 65536,
+    }
 }

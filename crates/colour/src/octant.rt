@@ -2,7 +2,7 @@
 use crate::Colour;
 use crate::Cube;
 ghost use mathlib.Core.Path.{_≡_};
-ghost use Prim.Native.Nat.{_+_, _*_, _/_, _%_, _<_, _≤_};
+ghost use Prim.Native.Nat.{suc, _+_, _*_, _/_, _%_, _<_, _≤_};
 ghost use Rattle.colour.specs.Octant.{sideAt, rootCube, childCube, Within};
 
 // The sides at depths 0 to 16.
@@ -47,6 +47,7 @@ pub fn root() -> Cube
             blue: 0,
         },
         depth: 0,
+        side: side(0),
     }
 }
 
@@ -58,16 +59,16 @@ fn child_code(low: u32, k: u32, weight: u32, side: u32) -> u32
     low + k / weight % 2 * side
 }
 
-// Child k of an octant of side over 1.
-pub fn child(c: Cube, k: u32) -> Cube
+// Child k of an octant of side over 1. The caller looks up the children's side, once for all eight.
+pub fn child(c: Cube, half: u32, k: u32) -> Cube
     requires { ⌜ Within c ⌝ }
     requires { ⌜ c .depth < 16 ⌝ }
+    requires { ⌜ half ≡ sideAt (suc (c .depth)) ⌝ }
     ensures is { λ r. ⌜ r ≡ childCube c k ⌝ }
     ensures within { λ r. ⌜ Within r ⌝ }
 {
     let low = c.low;
     let depth = c.depth + 1;
-    let half = side(depth);
     Cube {
         low: Colour {
             red: child_code(low.red, k, 1, half),
@@ -75,5 +76,6 @@ pub fn child(c: Cube, k: u32) -> Cube
             blue: child_code(low.blue, k, 4, half),
         },
         depth,
+        side: half,
     }
 }

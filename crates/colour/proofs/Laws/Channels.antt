@@ -7,7 +7,7 @@ use native.Mathlib.Omega.{arith}
 use lib.Dec.{leb, ltb}
 use borrow.Author.Tests.{ltb-true, leb-true, lt-ltb, le-leb, lt-leb}
 use Rattle.colour.specs.declared.Colour.{Colour}
-use Rattle.colour.specs.Colour.{Channel, Red, Green, Blue, codeIn, colourBy, each, sumOf, isCode, codesFit, InRange}
+use Rattle.colour.specs.Colour.{Channel, Red, Green, Blue, codeIn, colourBy, each, sumOf, isCode, codesFit, wrapped, InRange}
 use Rattle.colour.specs.Octant.{cubeHolds}
 
 -- A test holds in each channel exactly when it holds in every channel h.
@@ -45,6 +45,13 @@ pub sum-grows : (f g : Channel → ℕ) → ((h : Channel) → f h ≤ g h) → 
 unfolding sumOf
 sum-grows f g e = omega (arith, e Red, e Green, e Blue)
 
+-- No term of it is more than the sum.
+pub sum-term : (f : Channel → ℕ) (h : Channel) → f h ≤ sumOf f
+unfolding sumOf
+sum-term f Red = omega arith
+sum-term f Green = omega arith
+sum-term f Blue = omega arith
+
 -- Sums with equal terms are equal.
 pub sum-same : (f g : Channel → ℕ) → ((h : Channel) → f h ≡ g h) → sumOf f ≡ sumOf g
 unfolding sumOf
@@ -80,6 +87,16 @@ cube-among s low c = (
 pub fit-codes : (c : Colour) → (codesFit c ≡ true) ↔ ((h : Channel) → codeIn h c ≤ 65535)
 unfolding codesFit isCode
 fit-codes c = (λ e h. leb-true _ _ (each-every _ .0 e h), λ e. each-every _ .1 (λ h. le-leb _ _ (e h)))
+
+-- A colour in range stays as it is when its codes are brought into range.
+pub wrapped-same : (c : Colour) → codesFit c ≡ true → wrapped c ≡ c
+unfolding wrapped
+wrapped-same c e = same-codes (wrapped c) c (λ h. rw code-by (omega (arith, fit-codes c .0 e h)))
+
+-- What is brought into range is in range.
+pub wrapped-range : (c : Colour) → InRange (wrapped c)
+unfolding wrapped colourBy
+wrapped-range c = record { red = omega arith; green = omega arith; blue = omega arith }
 
 -- What the questions ask of a colour and what the functions require are the same.
 pub in-range : (c : Colour) → codesFit c ≡ true → InRange c

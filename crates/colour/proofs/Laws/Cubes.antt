@@ -2,7 +2,6 @@
 use Prim.Native.Nat.{ℕ, suc, _+_, _-_, _/_, _^_, _≤_, _<_}
 use mathlib.Core.Path.{_≡_, refl, ap, _∙_, subst⁻¹}
 use native.Mathlib.Nat.{two-pow-succ, pow-le-pow-right}
-use native.Mathlib.Numerals.{add-one}
 use native.Mathlib.Omega.{arith}
 use lib.Pow.{pow-pos}
 use Rattle.colour.specs.declared.Cube.{Cube}
@@ -39,44 +38,47 @@ side-most d = let h : 16 - d ≤ 16 = omega arith in pow-le-pow-right (omega ari
 pub is-side : (d : ℕ) {s : ℕ} → s ≡ sideAt d → (s ≡ sideAt d) × ((1 ≤ s) × (s ≤ 65536))
 is-side d e = (e, rw e (side-pos d, side-most d))
 
--- A cube's codes in a channel, for a side that is known to be its.
-pub room : (c : Cube) (s : ℕ) → Within c → s ≡ sideAt (c .depth) → (h : Channel) → (1 ≤ s) × (codeIn h (c .low) + s ≤ 65536)
-room c s w e h = rw e (side-pos _, w .low h)
+-- A cube has a code in each channel, and none past the last code.
+pub room : (c : Cube) → Within c → (h : Channel) → (1 ≤ c .side) × (codeIn h (c .low) + c .side ≤ 65536)
+room c w h = omega (arith, w .sized, w .low h, side-pos (c .depth))
 
--- Two children stand side by side within their parent; `child` has the child's depth as d + 1.
-pub child-room : (c : Cube) (s : ℕ) → Within c → c .depth < 16 → s ≡ sideAt (c .depth + 1) → (h : Channel) → codeIn h (c .low) + (s + s) ≤ 65536
+-- Two children, of side s, stand side by side within their parent.
+pub child-room : (c : Cube) (s : ℕ) → Within c → c .depth < 16 → s ≡ sideAt (suc (c .depth)) → (h : Channel)
+    → (1 ≤ s) × (codeIn h (c .low) + (s + s) ≤ 65536)
 unfolding depths
-child-room c s w d e h = omega (arith, e ∙ ap sideAt (add-one (c .depth)), w .low h, side-half (c .depth) d)
+child-room c s w d e h = omega (arith, e, w .sized, w .low h, side-half (c .depth) d, side-pos (suc (c .depth)))
 
 pub child-within : (c : Cube) (k : ℕ) → Within c → c .depth < 16 → Within (childCube c k)
 unfolding childCube depths
 child-within c k w d = record {
   depth = omega arith;
+  sized = refl;
   low = λ h. rw (child-code (sideAt (suc (c .depth))) k (c .low) h)
-      (omega (arith, w .low h, side-half (c .depth) d, bit-piece (k / bitWeight h) (sideAt (suc (c .depth)))));
+      (omega (arith, w .sized, w .low h, side-half (c .depth) d, bit-piece (k / bitWeight h) (sideAt (suc (c .depth)))));
 }
 
 pub root-within : Within rootCube
 unfolding rootCube black sideAt depths
-root-within = record { depth = omega arith; low = λ h. rw (code-by (λ g. 0) h) (omega arith) }
+root-within = record { depth = omega arith; sized = refl; low = λ h. rw (code-by (λ g. 0) h) (omega arith) }
 
 -- A cube that is equal to one within the root lies within it.
 pub is-within : {c d : Cube} → d ≡ c → Within c → (d ≡ c) × Within d
 is-within e w = (e, subst⁻¹ Within e w)
 
--- A cube that is an octant.
+-- A cube that is an octant, with its side.
 pub record IsOctant (c : Cube) : Type 0 where
   pub depth : c .depth ≤ depths
+  pub sized : c .side ≡ sideAt (c .depth)
   pub octant : Octant (depths - c .depth) (c .low)
 
 -- The root's cube is one, and so is each child's of an octant of side over 1.
 pub root-cube : IsOctant rootCube
 unfolding rootCube depths
-root-cube = record { depth = omega arith; octant = root }
+root-cube = record { depth = omega arith; sized = refl; octant = root }
 
 pub child-cube : (c : Cube) (k : ℕ) → IsOctant c → c .depth < depths → k < children → IsOctant (childCube c k)
 unfolding childCube sideAt depths
-child-cube c k o h b = record { depth = h; octant = child k b (rw e at (o .octant)) }
+child-cube c k o h b = record { depth = h; sized = refl; octant = child k b (rw e at (o .octant)) }
   where
     e : 16 - c .depth ≡ suc (16 - suc (c .depth))
     e = omega arith
@@ -84,4 +86,4 @@ child-cube c k o h b = record { depth = h; octant = child k b (rw e at (o .octan
 -- Such a cube is what the functions ask for.
 pub octant-within : (c : Cube) → IsOctant c → Within c
 unfolding sideAt
-octant-within c o = record { depth = o .depth; low = octant-lies (o .octant) .fits }
+octant-within c o = record { depth = o .depth; sized = o .sized; low = λ h. rw (o .sized) (octant-lies (o .octant) .fits h) }

@@ -6,7 +6,7 @@ use native.Mathlib.Nat.{add-comm, mul-le-mul}
 use native.Mathlib.Omega.{arith}
 use Rattle.colour.specs.declared.Colour.{Colour}
 use Rattle.colour.specs.Colour.{Channel, Red, Green, Blue, codeIn, colourBy, sumOf, codesFit, black, greatestDistance, apart, distance}
-use Rattle.colour.proofs.Laws.Channels.{sum-grows, sum-same, fit-codes}
+use Rattle.colour.proofs.Laws.Channels.{sum-grows, sum-term, sum-same, fit-codes}
 
 -- A square grows with its root.
 pub square-most : {x m : ℕ} → x ≤ m → x * x ≤ m * m
@@ -17,6 +17,11 @@ pub distance-grows : (a b c d : Colour)
     → ((h : Channel) → apart (codeIn h a) (codeIn h b) ≤ apart (codeIn h c) (codeIn h d)) → distance a b ≤ distance c d
 unfolding distance
 distance-grows a b c d e = sum-grows _ _ (λ h. square-most (e h))
+
+-- No channel's squared difference is more than d².
+pub distance-channel : (a b : Colour) (h : Channel) → apart (codeIn h a) (codeIn h b) * apart (codeIn h a) (codeIn h b) ≤ distance a b
+unfolding distance
+distance-channel a b h = sum-term (λ g. apart (codeIn g a) (codeIn g b) * apart (codeIn g a) (codeIn g b)) h
 
 -- d² is symmetric.
 pub distance-symmetric : (a b : Colour) → distance a b ≡ distance b a

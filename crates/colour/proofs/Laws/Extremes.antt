@@ -1,12 +1,12 @@
 -- Closest and farthest colours of a cube, and how a cube lies to a ball or a box (document 01, "Picks").
-use Prim.Native.Nat.{ℕ, max, _≤_, _<_}
+use Prim.Native.Nat.{ℕ, max, _+_, _-_, _/_, _≤_, _<_}
 use mathlib.Core.Bool.{Bool, true, false, _&&_, and-eq-true-iff}
 use mathlib.Core.Path.{_≡_, refl, sym, _∙_}
 use mathlib.Core.Logic.{_↔_}
-use native.Mathlib.Nat.{lt-of-le-of-lt}
+use native.Mathlib.Nat.{le-trans, lt-of-le-of-lt}
 use native.Mathlib.Omega.{arith}
 use lib.Dec.{leb}
-use borrow.Author.Tests.{ltb-true, leb-true, leb-false, lt-ltb, le-leb}
+use borrow.Author.Tests.{ltb-true, leb-true, leb-false, lt-ltb, le-ltb, le-leb}
 use Rattle.colour.specs.declared.Colour.{Colour}
 use Rattle.colour.specs.declared.Region.{Region}
 use Rattle.colour.specs.declared.Region.the-variants.{Ball, Box}
@@ -14,7 +14,7 @@ use Rattle.colour.specs.Colour.{Channel, codeIn, colourBy, each, apart, 
 use Rattle.colour.specs.Octant.{cubeHolds, lastCode}
 use Rattle.colour.specs.Region.{closestCode, farthestCode, closest, farthest, holds, overlaps, inside}
 use Rattle.colour.specs.Query.{ordered}
-use Rattle.colour.proofs.Laws.Distance.{distance-grows}
+use Rattle.colour.proofs.Laws.Distance.{square-most, distance-grows, distance-channel}
 use Rattle.colour.proofs.Laws.Channels.{Among, each-every, code-by, cube-among}
 
 -- A code r of a stretch of s codes from low such that no code y of the stretch is closer to x; and one such that none is farther.
@@ -71,6 +71,25 @@ farthest-colour c s low p =
   where
     law : (h : Channel) → Farthest s (codeIn h low) (codeIn h c) (codeIn h (farthest c s low))
     law h = rw code-by (farthest-code s (codeIn h low) (codeIn h c) p)
+
+-- The two ends of a stretch of s codes lie s - 1 apart.
+span : (s low x : ℕ) → s ≤ apart x low + apart x (low + s - 1) + 1
+unfolding apart
+span s low x = omega arith
+
+-- The farthest code of a stretch is half its length away at least.
+pub farthest-half : (s low x : ℕ) → 1 ≤ s → s / 2 ≤ apart x (farthestCode low (lastCode s low) x)
+farthest-half s low x p =
+    let f = farthest-code s low x p .extreme in
+    omega (arith, span s low x, f low (record { least = omega arith; below = omega arith }), f (low + s - 1) (record { least = omega arith; below = omega arith }))
+
+-- So an octant is not inside a ball of a radius up to half its side.
+pub half-outside : (c : Colour) (r s : ℕ) (low : Colour) → 1 ≤ s → r ≤ s / 2 → inside (Ball c r) s low ≡ false
+unfolding inside farthest
+half-outside c r s low p h = le-ltb _ _ (le-trans (square-most gap) (distance-channel c (farthest c s low) Channel.Red))
+  where
+    gap : r ≤ apart (codeIn Channel.Red c) (codeIn Channel.Red (farthest c s low))
+    gap = rw code-by (omega (arith, farthest-half s (codeIn Channel.Red low) (codeIn Channel.Red c) p))
 
 -- Two orders tested in each channel.
 orders : (a b c d : Channel → ℕ) → (each (λ h. leb (a h) (b h) && leb (c h) (d h)) ≡ true) ↔ ((h : Channel) → (a h ≤ b h) × (c h ≤ d h))

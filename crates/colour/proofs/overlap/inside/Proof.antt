@@ -8,12 +8,9 @@ use Rattle.colour.proofs.overlap.inside.Tie as tie
 enum-known-region : tie.Need-enum-known-region
 enum-known-region c = search needs
 
-farthest-distance-requires : tie.Need-farthest-distance-requires
+ball-inside-requires : tie.Need-ball-inside-requires
 unfolding Fair
-farthest-distance-requires c κs = (subst Fair (c .before .region .given .1) (c .before .before .before .pre .0), c .before .before .before .pre .1)
-
-square-requires : tie.Need-square-requires
-square-requires c κs = search needs
+ball-inside-requires c κs = (subst Fair (c .before .region .given .1) (c .before .before .before .pre .0), c .before .before .before .pre .1)
 
 enum-known-region-2 : tie.Need-enum-known-region-2
 enum-known-region-2 c = search needs
@@ -23,7 +20,7 @@ box-inside-requires c κs = search needs
 
 returns : tie.Need-returns
 unfolding inside
-returns c = rw (c .before .before .before .region .given .1, c .square .ensures, c .before .farthest-distance .ensures .0)
+returns c = rw (c .before .before .region .given .1) (c .ball-inside .ensures)
 
 returns-2 : tie.Need-returns-2
 unfolding inside
@@ -34,8 +31,7 @@ inside-spec =
     tie.close
     (tie.spec
     enum-known-region
-    farthest-distance-requires
-    square-requires
+    ball-inside-requires
     enum-known-region-2
     box-inside-requires
     returns
