@@ -1,14 +1,14 @@
 -- A table's words by row and field, over the layout: where a field stands, and the set that a sample table says.
-use Prim.Native.Nat.{ℕ, zero, suc, _+_, _*_}
+use Prim.Native.Nat.{ℕ, zero, suc, _+_, _*_, min}
 use mathlib.Core.Bool.{true, false}
 use mathlib.Core.List.{List, [], _∷_, map}
 use lib.Dec.{eqb}
-use lib.ListN.{getD, set}
+use lib.ListN.{length, getD, set}
 use Rattle.colour.specs.declared.Sample.{Sample}
 use Rattle.colour.specs.Colour.{Red, Green, Blue, colourBy}
 use Rattle.colour.specs.Octant.{bitWeight}
 use Rattle.model.specs.SampleSet.{SampleSet}
-use Rattle.model.specs.Layout.{Setting, Bucket, SampleField, Tag, Code, Next, OctantField, First, Last, Count, Child, Layout, sampleHeader, sampleWidth, octantHeader, octantWidth}
+use Rattle.model.specs.Layout.{Setting, Bucket, SampleField, Tag, Code, Next, OctantField, First, Last, Count, Child, Layout, sampleHeader, sampleWidth, octantHeader, octantWidth, sampleRows, octantRows}
 
 -- A number for each field, by which fields are told apart.
 unfoldable pub settingId : Setting → ℕ
@@ -18,6 +18,12 @@ unfoldable pub sampleId : SampleField → ℕ
 sampleId Tag = 0
 sampleId (Code h) = bitWeight h
 sampleId Next = 5
+
+unfoldable pub octantId : OctantField → ℕ
+octantId First = 0
+octantId Last = 1
+octantId Count = 2
+octantId (Child k) = 3 + k
 
 -- The place of a field among the fields of a row.
 unfoldable pub place : {F : Type 0} → (F → ℕ) → F → List F → ℕ
@@ -39,6 +45,13 @@ sampleAt L f i = sampleStart L i + place sampleId f (L .sample)
 unfoldable pub sampleField : Layout → List ℕ → ℕ → SampleField → ℕ
 sampleField L ws i f = getD ws (sampleAt L f i) 0
 
+-- The word of the octant table that holds field f of row i, and the field.
+unfoldable pub octantAt : Layout → OctantField → ℕ → ℕ
+octantAt L f i = octantStart L i + place octantId f (L .octant)
+
+unfoldable pub octantField : Layout → List ℕ → ℕ → OctantField → ℕ
+octantField L os i f = getD os (octantAt L f i) 0
+
 -- A setting in the header.
 unfoldable pub settingIn : Layout → List ℕ → Setting → ℕ
 settingIn L ws s = getD ws (suc (place settingId s (L .settings))) 0
@@ -46,6 +59,14 @@ settingIn L ws s = getD ws (suc (place settingId s (L .settings))) 0
 -- The count that a table of either kind starts with.
 unfoldable pub countIn : List ℕ → ℕ
 countIn ws = getD ws 0 0
+
+-- Octants may be entered below this row, whatever the words are: the count, clipped to the rows.
+unfoldable pub octantLimit : Layout → List ℕ → ℕ
+octantLimit L os = min (countIn os) (octantRows L (length os))
+
+-- No more samples than this are visited: the count, clipped to the rows.
+unfoldable pub sampleBudget : Layout → List ℕ → ℕ
+sampleBudget L ws = min (countIn ws) (sampleRows L (length ws))
 
 -- The sample in row i.
 unfoldable pub sampleIn : Layout → List ℕ → ℕ → Sample

@@ -1,15 +1,16 @@
 // Which word of the tables stands where. Nothing else knows an offset.
 use colour::Colour;
 use colour::Sample;
-ghost use Prim.Native.Nat.{_+_, _*_, _^_, _≤_, _<_};
+ghost use Prim.Native.Nat.{_+_, _*_, _^_, _≤_, _<_, min};
 ghost use mathlib.Core.Bool.{true, _&&_};
 ghost use mathlib.Core.Logic.{_↔_};
 ghost use mathlib.Core.Path.{_≡_};
 ghost use lib.Dec.{leb};
 ghost use mathlib.Core.List.{_∷_, _++_};
 ghost use lib.ListN.{length, take, drop, set};
-ghost use Rattle.model.specs.Layout.{Bucket, Next, current, sampleHeader, octantHeader, sampleRows, octantRows, octantWidth};
-ghost use Rattle.words.specs.Rows.{sampleStart, octantStart, sampleAt, sampleField, settingIn, countIn, sampleIn, withSample, octantRowBy};
+ghost use Rattle.colour.specs.Colour.{colourBy};
+ghost use Rattle.model.specs.Layout.{Bucket, Tag, Code, Next, First, Count, Child, current, sampleHeader, octantHeader, sampleRows, octantRows, octantWidth};
+ghost use Rattle.words.specs.Rows.{sampleStart, octantStart, sampleAt, sampleField, octantField, settingIn, countIn, octantLimit, sampleBudget, sampleIn, withSample, octantRowBy};
 
 // The words before the first row, and the words of a row.
 const SAMPLE_HEADER: usize = 2;
@@ -117,19 +118,66 @@ pub fn bucket(samples: &[u32]) -> u32
     samples[1]
 }
 
+// The lesser of the count that a table says and the rows that it has.
+fn lesser(said: u32, rows: usize) -> u32
+    ensures { λ r. ⌜ r ≡ min said rows ⌝ }
+{
+    if (said as usize) <= rows {
+        return said;
+    }
+    rows as u32
+}
+
+// The rows below which an octant may be entered, whatever the words are.
+pub fn octant_limit(octants: &[u32]) -> u32
+    requires { ⌜ 1 ≤ length (now octants) ⌝ }
+    ensures { λ r. ⌜ r ≡ octantLimit current (now (octants .entry)) ⌝ }
+{
+    let rows = octant_rows(octants.len());
+    lesser(count(octants), rows)
+}
+
+// The samples that are there to be read, whatever the words are.
+pub fn sample_budget(samples: &[u32]) -> u32
+    requires { ⌜ 2 ≤ length (now samples) ⌝ }
+    ensures is { λ r. ⌜ r ≡ sampleBudget current (now (samples .entry)) ⌝ }
+    ensures bounded { λ r. ⌜ r ≤ 4096 ⌝ }
+{
+    let rows = sample_rows(samples.len());
+    lesser(count(samples), rows)
+}
+
+// The tag in row i.
+pub fn tag(samples: &[u32], i: usize) -> u32
+    requires { ⌜ i < sampleRows current (length (now samples)) ⌝ }
+    ensures { λ r. ⌜ r ≡ sampleField current (now (samples .entry)) i Tag ⌝ }
+{
+    let at = sample_start(i);
+    samples[at]
+}
+
+// The colour in row i.
+pub fn colour(samples: &[u32], i: usize) -> Colour
+    requires { ⌜ i < sampleRows current (length (now samples)) ⌝ }
+    ensures { λ r. ⌜ r ≡ colourBy (λ h. sampleField current (now (samples .entry)) i (Code h)) ⌝ }
+{
+    let at = sample_start(i);
+    Colour {
+        red: samples[at + RED],
+        green: samples[at + GREEN],
+        blue: samples[at + BLUE],
+    }
+}
+
 // The sample in row i.
 pub fn sample(samples: &[u32], i: usize) -> Sample
     requires { ⌜ i < sampleRows current (length (now samples)) ⌝ }
     ensures { λ r. ⌜ r ≡ sampleIn current (now (samples .entry)) i ⌝ }
 {
-    let at = sample_start(i);
+    let c = colour(samples, i);
     Sample {
-        tag: samples[at],
-        colour: Colour {
-            red: samples[at + RED],
-            green: samples[at + GREEN],
-            blue: samples[at + BLUE],
-        },
+        tag: tag(samples, i),
+        colour: c,
     }
 }
 
@@ -178,6 +226,33 @@ pub fn put_count(octants: &mut [u32], count: u32)
     ensures { λ _. ⌜ now (octants .exit) ≡ count ∷ drop (octantHeader current) (now (octants .entry)) ⌝ }
 {
     octants[0] = count;
+}
+
+// The first sample row of octant row `row`.
+pub fn octant_first(octants: &[u32], row: u32) -> u32
+    requires { ⌜ row < octantRows current (length (now octants)) ⌝ }
+    ensures { λ r. ⌜ r ≡ octantField current (now (octants .entry)) row First ⌝ }
+{
+    let at = octant_start(row);
+    octants[at]
+}
+
+// Its sample count.
+pub fn octant_count(octants: &[u32], row: u32) -> u32
+    requires { ⌜ row < octantRows current (length (now octants)) ⌝ }
+    ensures { λ r. ⌜ r ≡ octantField current (now (octants .entry)) row Count ⌝ }
+{
+    let at = octant_start(row);
+    octants[at + COUNT]
+}
+
+// Its word for child k.
+pub fn octant_child(octants: &[u32], row: u32, k: u32) -> u32
+    requires { ⌜ (row < octantRows current (length (now octants))) × (k < 8) ⌝ }
+    ensures { λ r. ⌜ r ≡ octantField current (now (octants .entry)) row (Child k) ⌝ }
+{
+    let at = octant_start(row);
+    octants[at + (CHILD + (k as usize))]
 }
 
 // What an octant row says besides its children.
