@@ -7,7 +7,6 @@ use lib.Dec.{leb, eqb}
 use lib.ListN.{length, drop}
 use Rattle.colour.specs.declared.Colour.{Colour}
 use Rattle.colour.specs.declared.Sample.{Sample}
-use Rattle.colour.specs.declared.Region.{Region}
 use Rattle.colour.specs.declared.Query.{Query}
 use Rattle.colour.specs.declared.panel.Asked.{Asked}
 use Rattle.colour.specs.declared.panel.Asked.the-variants as A
@@ -145,11 +144,10 @@ load m none = record { answer = loadAnswer 11 0; next = m }
 load m (some lines) = loadLines m 0 lines
 
 -- Ball and box list from the listing's first word and leave the rest. Question 13: listing holds all?
-unfoldable pub listingAnswer : Region → SampleSet → List ℕ → Answer
-listingAnswer R set lent =
-    let tags : List ℕ = listed R set in
+unfoldable pub listingAnswer : List ℕ → Counts → List ℕ → Answer
+listingAnswer tags c lent =
     elim (leb (length tags) (length lent)) [
-      | true ↦ listAnswer 0 (length tags) (counts R set) (tags ++ drop (length tags) lent)
+      | true ↦ listAnswer 0 (length tags) c (tags ++ drop (length tags) lent)
       | false ↦ plain 13 lent
     ]
 
@@ -160,7 +158,7 @@ foundAnswer c (some x) lent = nearestAnswer 0 true (tagOf x) (distance c (x .sam
 
 -- A query that is taken apart, or refused by question 9.
 unfoldable pub askedAnswer : SampleSet → Asked → List ℕ → Answer
-askedAnswer set (A.List R) lent = listingAnswer R set lent
+askedAnswer set (A.List R) lent = listingAnswer (listed R set) (counts R set) lent
 askedAnswer set (A.Nearest c r) lent = foundAnswer c (nearest c r set) lent
 askedAnswer set A.Refused lent = plain 9 lent
 

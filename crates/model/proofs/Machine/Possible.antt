@@ -6,6 +6,7 @@ use mathlib.Core.Path.{_≡_, refl, sym, ap, _∙_, subst}
 use native.Mathlib.Omega.{arith}
 use borrow.Author.Tests.{eq-eqb, ne-eqb}
 use Rattle.colour.specs.declared.Query.{Query}
+use Rattle.colour.specs.Query.{queryGood}
 use Rattle.model.specs.SampleSet.{Settings}
 use Rattle.model.specs.Layout.{current}
 use Rattle.model.specs.Tables.{Tables}
@@ -47,29 +48,36 @@ module _ (m : Machine) (t : Tables) (s : Shows current m t) where
   machine-meets (Remove x) = table-meets _ (Remove x)
   machine-meets (Ask q l) = table-meets _ (Ask q l)
 
--- A query that gives 2 on unsound tables keeps within what question 2 leaves it.
-nothing-reported : (q : Query) (l : List ℕ) → plain 2 l ≡ ownReports q l (plain 2 l)
+-- A query that refuses on unsound tables keeps within what question 2 leaves it, where it may give the number: 9 exactly for a query that is not as
+-- Gestures says, unless it is 2.
+nothing-reported : (q : Query) (l : List ℕ) (n : ℕ) → plain n l ≡ ownReports q l (plain n l)
 unfolding ownReports plain nearestAnswer listAnswer
-nothing-reported q l = go (lists q) refl
+nothing-reported q l n = go (lists q) refl
   where
-    go : (r : Bool) → lists q ≡ r → plain 2 l ≡ ownReports q l (plain 2 l)
+    go : (r : Bool) → lists q ≡ r → plain n l ≡ ownReports q l (plain n l)
     go true e = rw (e, ownReports)
     go false e = rw (e, ownReports)
 
-pub refusing-is-free : (q : Query) (l : List ℕ) (t : Tables) → Free q l t (plain 2 l) t
-unfolding mayGive plain nearestAnswer
-refusing-is-free q l t =
+pub refusing-free : (q : Query) (l : List ℕ) (t : Tables) (n : ℕ) → mayGive q n ≡ true → (queryGood q ≡ false → (n ≡ 2 → ⊥) → n ≡ 9)
+    → (queryGood q ≡ true → n ≡ 9 → ⊥) → Free q l t (plain n l) t
+unfolding plain nearestAnswer
+refusing-free q l t n may bad good =
     record {
       tables = refl;
-      number = refl;
-      bad = λ _ n. absurd (n refl);
-      good = λ _ e. omega arith;
+      number = may;
+      bad = bad;
+      good = good;
       same-length = refl;
       room = omega arith;
       past = refl;
       refused = λ _. refl;
-      reports = nothing-reported q l;
+      reports = nothing-reported q l n;
     }
+
+-- By 2.
+pub refusing-is-free : (q : Query) (l : List ℕ) (t : Tables) → Free q l t (plain 2 l) t
+unfolding mayGive
+refusing-is-free q l t = refusing-free q l t 2 refl (λ _ n. absurd (n refl)) (λ _ e. omega arith)
 
 -- On tables that are too short, refusing by 1 meets every contract.
 module _ (t : Tables) (e : longEnough current t ≡ false) where

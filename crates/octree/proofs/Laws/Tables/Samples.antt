@@ -80,7 +80,7 @@ module _ (ws : List ℕ) (ordered : List Placed) (n : ℕ) (room : sampleStart c
   unfolding sampleTableBy
   samples-hold h z = named-padded (length ws) (namedSamples b ordered xs) ws refl (sampleStart current n) start-is (nexts-named h) z
 
-  held-samples : ws ≡ sampleTableBy (length ws) b ordered xs → Follows ws ordered n × ZeroFrom (sampleStart current n) ws
+  pub held-samples : ws ≡ sampleTableBy (length ws) b ordered xs → Follows ws ordered n × ZeroFrom (sampleStart current n) ws
   unfolding sampleTableBy
   held-samples e =
       let both = padded-named (length ws) (namedSamples b ordered xs) ws refl (sampleStart current n) start-is e in (named-nexts (both .0), both .1)
