@@ -1,0 +1,3 @@
+-- From a pass to what is answered.
+pub mod Answered
+pub mod Listing
