@@ -175,6 +175,58 @@ uint32_t hbx_remove(uint32_t *samples, size_t samples_len, uint32_t *octants, si
 uint32_t hbx_load(uint32_t *samples, size_t samples_len, uint32_t *octants, size_t octants_len,
                   const uint8_t *sheet, size_t sheet_len, uint32_t *taken);
 
+/* A query lists the tags of the samples in a region, in the order of the samples. A ball is a panel
+ * colour, its centre, and a radius; a box is a low and a high panel colour. All floats are taken as
+ * codes, by the rule of hbx_codes; a radius is good when 0 <= radius < 2.
+ *
+ *     ball   samples with d^2 < r^2: d^2 is the sum of the three squared differences between the
+ *            codes of sample and centre, r the radius as a code
+ *     box    samples with low <= code <= high in all three channels
+ *
+ * The tags are written from the listing's first word on; the words after them stay as they were.
+ * *listed gets how many tags they are, *entered how many octants were gone into, *measured how many
+ * samples were looked at one by one. (An octant that lies inside the region is listed whole: it is
+ * entered, and its samples are not measured.)
+ *
+ * A listing of samples[0] words, or of as many as there are sample rows where that is fewer, never
+ * gives 13 and is written in one pass. For a shorter one the tags are counted first, and then
+ * written where it holds all.
+ *
+ * A query does not ask whether the tables are sound: that would cost more than the query. On tables
+ * that are not, nothing dangerous happens: the call ends, and soon. A pass enters at most as many
+ * octants as octants[0] says, and as there are rows, and goes through at most as many samples as
+ * samples[0] says, and as there are rows. Nothing is written but the listing, up to *listed, and the
+ * three reports. But the listing then means nothing: call hbx_check where in doubt.
+ *
+ * Both calls only read the tables. Each needs less than 8,000 bytes of stack.
+ */
+
+/* Lists the samples in a ball.
+ *
+ * Returns 0 where they are listed. Otherwise the listing is as it was, the three reports get 0, and
+ * the first of these that is so gives the number:
+ *    1  samples_len is under 2, or octants_len under 1
+ *    9  a channel of the centre is not good, or the radius is not
+ *   13  listing_len is under the number of tags to list
+ */
+uint32_t hbx_ball(const uint32_t *samples, size_t samples_len, const uint32_t *octants,
+                  size_t octants_len, float red, float green, float blue, float radius,
+                  uint32_t *listing, size_t listing_len, uint32_t *listed, uint32_t *entered,
+                  uint32_t *measured);
+
+/* Lists the samples in a box.
+ *
+ * Returns 0 where they are listed. Otherwise the listing is as it was, the three reports get 0, and
+ * the first of these that is so gives the number:
+ *    1  samples_len is under 2, or octants_len under 1
+ *    9  a channel of either colour is not good, or low is above high in one, as codes
+ *   13  listing_len is under the number of tags to list
+ */
+uint32_t hbx_box(const uint32_t *samples, size_t samples_len, const uint32_t *octants,
+                 size_t octants_len, float low_red, float low_green, float low_blue,
+                 float high_red, float high_green, float high_blue, uint32_t *listing,
+                 size_t listing_len, uint32_t *listed, uint32_t *entered, uint32_t *measured);
+
 #ifdef __cplusplus
 }
 #endif

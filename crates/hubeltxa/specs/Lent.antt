@@ -7,11 +7,14 @@ use Rattle.colour.specs.declared.Colour.{Colour}
 use Rattle.colour.specs.declared.PanelColour.{PanelColour}
 use Rattle.colour.specs.declared.Sample.{Sample}
 use Rattle.colour.specs.Panel.{CodesAnswer, FloatsAnswer}
+use Rattle.query.specs.declared.answers.Listed.{Listed}
+use Rattle.query.specs.Answers.{listedNumber, listedCount, listedCounts}
 use Rattle.sheet.specs.declared.lookup.Part.{Part}
 use Rattle.sheet.specs.Line.{WriteAnswer}
 use Rattle.model.specs.Layout.{current}
 use Rattle.model.specs.Tables.{Tables}
 use Rattle.model.specs.Sound.{Sound}
+use Rattle.model.specs.Machine.{Answer, listAnswer}
 
 -- A colour from three numbers, and a panel colour from three floats.
 abbrev pub colourOf : ℕ → ℕ → ℕ → Colour
@@ -44,3 +47,13 @@ pub record CheckLent (t : Tables) (r : ℕ) : Type 0 where
   pub yes-or-no : r ≤ 1
   pub sound : r ≡ 1 → Sound current t
   pub complete : Sound current t → r ≡ 1
+
+-- A ball's or a box's answer: the number returned, the three words as the call leaves them, and the listing.
+abbrev pub listLent : ℕ → ℕ → ℕ → ℕ → List ℕ → Answer
+listLent n listed entered measured listing = listAnswer n listed (record { entered = entered; measured = measured }) listing
+
+-- A number and three words that say what a ball or a box answers.
+pub record Told (a : Listed) (number listed entered measured : ℕ) : Type 0 where
+  pub number-is : number ≡ listedNumber a
+  pub listed-is : listed ≡ listedCount a
+  pub counts-are : record { entered = entered; measured = measured } ≡ listedCounts a

@@ -1,9 +1,11 @@
 // The C boundary. Each call takes numbers, floats and lent words, and is a thin call of the crate that does the work.
 use colour::Colour;
 use colour::PanelColour;
+use colour::Query;
 use colour::Sample;
 use colour::panel::Codes;
 use colour::panel::Floats;
+use query::answers::Listed;
 ghost use mathlib.Core.List.{[]};
 ghost use mathlib.Core.Path.{_≡_};
 ghost use Rattle.colour.specs.Panel.{floatsToCodes, codesToFloats};
@@ -12,7 +14,8 @@ ghost use Rattle.sheet.specs.Sheet.{namePart};
 ghost use Rattle.model.specs.Tables.{pair};
 ghost use Rattle.model.specs.Machine.{Clear, Add, Remove, Load, plain, loadAnswer};
 ghost use Rattle.model.specs.Meets.{Meets};
-ghost use Rattle.hubeltxa.specs.Lent.{colourOf, panelColourOf, sampleOf, codesLent, floatsLent, lineLent, partLent, CheckLent};
+ghost use Rattle.query.specs.Answers.{ListMeets};
+ghost use Rattle.hubeltxa.specs.Lent.{colourOf, panelColourOf, sampleOf, codesLent, floatsLent, lineLent, partLent, CheckLent, listLent, Told};
 
 // Floats to codes.
 #[no_mangle]
@@ -154,6 +157,70 @@ pub extern "C" fn hbx_load(
     let report = samples::answers::report_of(samples::load::load(samples, octants, sheet));
     *taken = report.taken;
     report.number
+}
+
+// What a ball or a box answers: the number is returned, and the counts go to the words lent for them.
+fn tell(answer: Listed, listed: &mut u32, entered: &mut u32, measured: &mut u32) -> u32
+    ensures { λ r. ⌜ Told answer r (now (listed .exit)) (now (entered .exit)) (now (measured .exit)) ⌝ }
+{
+    let told = query::answers::report_of(answer);
+    *listed = told.listed;
+    *entered = told.entered;
+    *measured = told.measured;
+    told.number
+}
+
+// Lists the samples in a ball, and says how many were listed, entered and measured.
+#[no_mangle]
+pub extern "C" fn hbx_ball(
+    samples: &[u32],
+    octants: &[u32],
+    red: f32,
+    green: f32,
+    blue: f32,
+    radius: f32,
+    listing: &mut [u32],
+    listed: &mut u32,
+    entered: &mut u32,
+    measured: &mut u32,
+) -> u32
+    ensures { λ r. ⌜ ListMeets (Query.Ball (panelColourOf red green blue) radius) (now (listing .entry)) (pair (now (samples .entry)) (now (octants .entry))) (listLent r (now (listed .exit)) (now (entered .exit)) (now (measured .exit)) (now (listing .exit))) ⌝ }
+{
+    let centre = PanelColour { red, green, blue };
+    let answer = query::list::ball(samples, octants, centre, radius, listing);
+    tell(answer, listed, entered, measured)
+}
+
+// Lists the samples in a box, and says the same.
+#[no_mangle]
+pub extern "C" fn hbx_box(
+    samples: &[u32],
+    octants: &[u32],
+    low_red: f32,
+    low_green: f32,
+    low_blue: f32,
+    high_red: f32,
+    high_green: f32,
+    high_blue: f32,
+    listing: &mut [u32],
+    listed: &mut u32,
+    entered: &mut u32,
+    measured: &mut u32,
+) -> u32
+    ensures { λ r. ⌜ ListMeets (Query.Box (panelColourOf «low_red» «low_green» «low_blue») (panelColourOf «high_red» «high_green» «high_blue»)) (now (listing .entry)) (pair (now (samples .entry)) (now (octants .entry))) (listLent r (now (listed .exit)) (now (entered .exit)) (now (measured .exit)) (now (listing .exit))) ⌝ }
+{
+    let low = PanelColour {
+        red: low_red,
+        green: low_green,
+        blue: low_blue,
+    };
+    let high = PanelColour {
+        red: high_red,
+        green: high_green,
+        blue: high_blue,
+    };
+    let answer = query::list::boxed(samples, octants, low, high, listing);
+    tell(answer, listed, entered, measured)
 }
 
 // What the checking call says.

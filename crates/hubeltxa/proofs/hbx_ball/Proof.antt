@@ -1,0 +1,22 @@
+-- `hbx_ball`: what ball and tell ensure.
+use Rattle.hubeltxa.proofs.Laws.Told.{listed-told}
+use borrow.Author.Needs.{needs}
+use Rattle.hubeltxa.proofs.hbx_ball.Statement.{statement}
+use Rattle.hubeltxa.proofs.hbx_ball.Tie as tie
+
+ball-requires : tie.Need-ball-requires
+ball-requires c κs = search needs
+
+tell-requires : tie.Need-tell-requires
+tell-requires c κs = search needs
+
+same-length : tie.Need-same-length
+same-length c = search needs
+
+returns : tie.Need-returns
+returns c =
+    let a = c .before .before .before .before .before .before .ball in
+    listed-told _ _ _ (a .result) _ _ _ _ _ (c .tell .ensures) (a .ensures)
+
+pub hbx-ball-spec : {M : Type 1} → statement M
+hbx-ball-spec = tie.close (tie.spec ball-requires tell-requires same-length returns)

@@ -1,0 +1,22 @@
+-- `hbx_box`: what boxed and tell ensure.
+use Rattle.hubeltxa.proofs.Laws.Told.{listed-told}
+use borrow.Author.Needs.{needs}
+use Rattle.hubeltxa.proofs.hbx_box.Statement.{statement}
+use Rattle.hubeltxa.proofs.hbx_box.Tie as tie
+
+boxed-requires : tie.Need-boxed-requires
+boxed-requires c κs = search needs
+
+tell-requires : tie.Need-tell-requires
+tell-requires c κs = search needs
+
+same-length : tie.Need-same-length
+same-length c = search needs
+
+returns : tie.Need-returns
+returns c =
+    let a = c .before .before .before .before .before .before .boxed in
+    listed-told _ _ _ (a .result) _ _ _ _ _ (c .tell .ensures) (a .ensures)
+
+pub hbx-box-spec : {M : Type 1} → statement M
+hbx-box-spec = tie.close (tie.spec boxed-requires tell-requires same-length returns)
