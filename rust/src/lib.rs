@@ -28,6 +28,9 @@
 //!
 //! Every other word is 0. Tables are *sound* when they are exactly those of some set.
 //!
+//! A *query* lists the tags of the samples in a ball or in a box, in the order. It does not ask whether the
+//! tables are sound; on tables that are not, it is safe, and what it lists means nothing.
+//!
 //! A call that is refused gives `Err` with the number that says why; a refused load also says how many
 //! lines it took. The functions have no state and may be called from any thread.
 //!
@@ -47,6 +50,10 @@
 //! hubeltxa::add(&mut samples, &mut octants, 8, [0, 0, 65_535])?;
 //! hubeltxa::remove(&mut samples, &mut octants, 7)?;
 //! assert!(hubeltxa::check(&samples, &octants));
+//!
+//! let mut listing = [0; 512];
+//! let near_blue = hubeltxa::ball(&samples, &octants, [0.0, 0.0, 0.99], 0.05, &mut listing)?;
+//! assert_eq!(near_blue.tags(&listing), [8]);
 //! # Ok::<(), u32>(())
 //! ```
 //!
@@ -167,6 +174,50 @@ pub mod raw {
             sheet: *const u8,
             sheet_len: usize,
             taken: *mut u32,
+        ) -> u32;
+
+        /// Lists the samples in a ball; see [`ball`](crate::ball). A length is in words.
+        ///
+        /// # Safety
+        /// `samples` must be good for reads of `samples_len` words, `octants` of `octants_len`, and
+        /// `listing` for reads and writes of `listing_len`; none may be null, not even where its length is
+        /// 0. The last three pointers must be good for writes. What is written may not overlap anything else.
+        pub fn hbx_ball(
+            samples: *const u32,
+            samples_len: usize,
+            octants: *const u32,
+            octants_len: usize,
+            red: f32,
+            green: f32,
+            blue: f32,
+            radius: f32,
+            listing: *mut u32,
+            listing_len: usize,
+            listed: *mut u32,
+            entered: *mut u32,
+            measured: *mut u32,
+        ) -> u32;
+
+        /// Lists the samples in a box; see [`box_`](crate::box_). A length is in words.
+        ///
+        /// # Safety
+        /// As of [`hbx_ball`].
+        pub fn hbx_box(
+            samples: *const u32,
+            samples_len: usize,
+            octants: *const u32,
+            octants_len: usize,
+            low_red: f32,
+            low_green: f32,
+            low_blue: f32,
+            high_red: f32,
+            high_green: f32,
+            high_blue: f32,
+            listing: *mut u32,
+            listing_len: usize,
+            listed: *mut u32,
+            entered: *mut u32,
+            measured: *mut u32,
         ) -> u32;
     }
 }
@@ -421,4 +472,157 @@ pub fn load(samples: &mut [u32], octants: &mut [u32], sheet: &[u8]) -> Result<u3
     // pointer is to a local.
     let number = unsafe { raw::hbx_load(s, samples.len(), o, octants.len(), sheet.as_ptr(), sheet.len(), &mut taken) };
     unless_refused(number, taken).map_err(|number| RefusedLoad { number, taken })
+}
+
+/// What a query reports: see [`ball`] and [`box_`].
+#[derive(Clone, Copy, Debug, PartialEq, Eq)]
+pub struct Listed {
+    /// How many tags were written, from the listing's first word on.
+    pub listed: u32,
+    /// How many octants were gone into.
+    pub entered: u32,
+    /// How many samples were looked at one by one; those of an octant inside the region are not.
+    pub measured: u32,
+}
+
+impl Listed {
+    /// The tags: the part of the listing that the query wrote.
+    pub fn tags<'a>(&self, listing: &'a [u32]) -> &'a [u32] {
+        &listing[..self.listed as usize]
+    }
+}
+
+/// Lists the tags of the samples in a ball, in the order of the samples, from the listing's first word on;
+/// the words after them stay as they were. The tables are only read. The call needs less than 8,000 bytes of
+/// stack.
+///
+/// Centre and radius are taken as codes, by the rule of [`codes`]. A sample is in the ball where d² < r²:
+/// d² is the sum of the three squared differences between its codes and the centre's, r the radius as a
+/// code.
+///
+/// A listing of as many words as samples (`samples[0]`, or the sample rows where they are fewer) never gives
+/// 13, and is written in one pass. For a shorter one the tags are counted first.
+///
+/// The call does not ask whether the tables are sound, which would cost more than the query. On tables that
+/// are not it ends as well, and writes nothing else, but the listing then means nothing: see [`check`].
+///
+/// # Errors
+/// The first of these that is so; the listing is as it was then:
+/// - 1 where `samples` has fewer than 2 words or `octants` none;
+/// - 9 where a channel of the centre is not in `0 <= v < 1`, or the radius not in `0 <= v < 2`;
+/// - 13 where the listing is shorter than all that is in the ball.
+///
+/// ```
+/// use hubeltxa::Listed;
+///
+/// let (mut samples, mut octants) = ([0; 2 + 5 * 3], [0; 1 + 11 * 3]);
+/// hubeltxa::clear(&mut samples, &mut octants, 2)?;
+/// for (tag, grey) in [(7, 0), (8, 65_535), (9, 0)] {
+///     hubeltxa::add(&mut samples, &mut octants, tag, [grey; 3])?;
+/// }
+///
+/// let mut listing = [0; 3];
+/// let black = hubeltxa::ball(&samples, &octants, [0.0; 3], 0.001, &mut listing)?;
+/// assert_eq!(black, Listed { listed: 2, entered: 2, measured: 2 });
+/// assert_eq!(black.tags(&listing), [7, 9]);
+///
+/// let all = hubeltxa::ball(&samples, &octants, [0.0; 3], 1.999, &mut listing)?;
+/// assert_eq!(all, Listed { listed: 3, entered: 1, measured: 0 });
+/// assert_eq!(all.tags(&listing), [7, 9, 8]);
+///
+/// assert_eq!(hubeltxa::ball(&samples, &octants, [0.0; 3], 2.0, &mut listing), Err(9));
+/// assert_eq!(hubeltxa::ball(&samples, &octants, [0.0; 3], 1.999, &mut listing[..2]), Err(13));
+/// # Ok::<(), u32>(())
+/// ```
+pub fn ball(
+    samples: &[u32],
+    octants: &[u32],
+    centre: [f32; 3],
+    radius: f32,
+    listing: &mut [u32],
+) -> Result<Listed, u32> {
+    let [mut listed, mut entered, mut measured] = [0; 3];
+    // SAFETY: each pointer and length is a slice's, and the one that is written is borrowed alone; the last
+    // pointers are to three locals.
+    let number = unsafe {
+        raw::hbx_ball(
+            samples.as_ptr(),
+            samples.len(),
+            octants.as_ptr(),
+            octants.len(),
+            centre[0],
+            centre[1],
+            centre[2],
+            radius,
+            listing.as_mut_ptr(),
+            listing.len(),
+            &mut listed,
+            &mut entered,
+            &mut measured,
+        )
+    };
+    unless_refused(number, Listed { listed, entered, measured })
+}
+
+/// Lists the tags of the samples in a box, in the order of the samples, as [`ball`] lists those in a ball: what
+/// is said there of the listing, of tables that are not sound and of the stack holds here.
+///
+/// The low and the high colour are taken as codes, by the rule of [`codes`]. A sample is in the box where
+/// low <= code <= high in all three channels.
+///
+/// # Errors
+/// The first of these that is so; the listing is as it was then:
+/// - 1 where `samples` has fewer than 2 words or `octants` none;
+/// - 9 where a channel of either colour is not in `0 <= v < 1`, or low is above high in one, as codes;
+/// - 13 where the listing is shorter than all that is in the box.
+///
+/// ```
+/// use hubeltxa::Listed;
+///
+/// let (mut samples, mut octants) = ([0; 2 + 5 * 3], [0; 1 + 11 * 3]);
+/// hubeltxa::clear(&mut samples, &mut octants, 2)?;
+/// for (tag, grey) in [(7, 0), (8, 65_535), (9, 0)] {
+///     hubeltxa::add(&mut samples, &mut octants, tag, [grey; 3])?;
+/// }
+///
+/// let (dark, light) = ([0.25; 3], [0.75; 3]);
+/// let mut listing = [0; 3];
+/// let lighter = hubeltxa::box_(&samples, &octants, dark, [0.999_999; 3], &mut listing)?;
+/// assert_eq!(lighter, Listed { listed: 1, entered: 3, measured: 2 });
+/// assert_eq!(lighter.tags(&listing), [8]);
+///
+/// let between = hubeltxa::box_(&samples, &octants, dark, light, &mut [])?; // nothing to list
+/// assert_eq!(between.listed, 0);
+/// assert_eq!(hubeltxa::box_(&samples, &octants, light, dark, &mut listing), Err(9));
+/// # Ok::<(), u32>(())
+/// ```
+pub fn box_(
+    samples: &[u32],
+    octants: &[u32],
+    low: [f32; 3],
+    high: [f32; 3],
+    listing: &mut [u32],
+) -> Result<Listed, u32> {
+    let [mut listed, mut entered, mut measured] = [0; 3];
+    // SAFETY: as in `ball`.
+    let number = unsafe {
+        raw::hbx_box(
+            samples.as_ptr(),
+            samples.len(),
+            octants.as_ptr(),
+            octants.len(),
+            low[0],
+            low[1],
+            low[2],
+            high[0],
+            high[1],
+            high[2],
+            listing.as_mut_ptr(),
+            listing.len(),
+            &mut listed,
+            &mut entered,
+            &mut measured,
+        )
+    };
+    unless_refused(number, Listed { listed, entered, measured })
 }

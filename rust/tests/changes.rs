@@ -16,8 +16,8 @@ mod lines;
 mod random;
 mod sets;
 
-use compared::{Compared, Tables};
-use damage::{any_words, Both};
+use compared::{Compared, Tables, CHANGES};
+use damage::Both;
 use hubeltxa::{HEADER_LENGTH as HEADER, LINE_LENGTH as LINE};
 use lines::*;
 use random::*;
@@ -210,7 +210,7 @@ fn sequences(compared: &mut Compared, runs: usize, calls: usize, mut state: u64)
 fn call_sequences() {
     let mut compared = Compared::default();
     sequences(&mut compared, 120, 150, 1);
-    compared.print_all_seen("call sequences");
+    compared.print_all_seen("call sequences", CHANGES);
 }
 
 /// Sequences on sets with nearly all rows that there can be in use.
@@ -586,23 +586,8 @@ fn seeing<'a>(compared: &'a mut Compared, state: &'a mut u64) -> impl FnMut(&[u3
 
 /// Each kind of damage, to sets with each of the bucket sizes of these tests; of the words, every step-th.
 fn damaged(compared: &mut Compared, step: usize, mut state: u64) {
-    let bins: Vec<Bin> = small_sets().iter().flat_map(|samples| SIZES.map(|bucket| exact(samples, bucket))).collect();
-    let mut state_of_tags = random(&mut state);
-    let see = &mut seeing(compared, &mut state);
-    for bin in bins.iter().filter(|bin| bin.octant_words < 800) {
-        damage::words_changed(&longer(bin, 5 + 3, 11 + 7), step, see);
-        damage::rows_swapped(bin, see);
-        damage::children_swapped(bin, see);
-        damage::tables_cut(bin, see);
-    }
-    for bin in &bins {
-        damage::zeros_broken(bin, see);
-        damage::counts_changed(bin, see);
-        damage::equal_tags(bin, &mut state_of_tags, see);
-        damage::rows_left(bin, see);
-    }
-    small_sets().iter().for_each(|samples| damage::codes_past_the_end(samples, see));
-    damage::mixed(&bins, 5 * step, see);
+    let mut tags = random(&mut state);
+    damage::small(&SIZES, step, &mut tags, &mut seeing(compared, &mut state));
 }
 
 #[test]
@@ -612,36 +597,17 @@ fn damaged_tables() {
     compared.print("damaged tables");
 }
 
-/// Damage to tables of some hundreds of samples to 4,096; of the words, every step-th or so.
-fn damaged_large(compared: &mut Compared, step: usize, mut state: u64) {
-    let see = &mut seeing(compared, &mut state);
-    damage::words_changed(&exact(&tagged(scattered(300, 23)), 2), step, see);
-    damage::words_changed(&exact(&tagged(clustered(1_000, 5, 300, 24)), 16), 2 * step + 1, see);
-    damage::words_changed(&exact(&tagged(scattered(MOST, 25)), 16), 9 * step + 2, see);
-    damage::words_changed(&exact(&tagged([[65_535; 3]; MOST]), 256), 20 * step + 1, see);
-    damage::equal_tags(&exact(&tagged(scattered(MOST, 26)), 16), &mut 27, see);
-}
-
 #[test]
 fn damaged_large_tables() {
     let mut compared = Compared::default();
-    damaged_large(&mut compared, 211, 22);
+    damage::large(211, &mut seeing(&mut compared, &mut 22));
     compared.print("damaged large tables");
 }
 
 /// A few edits at once, and any words.
 fn edited(compared: &mut Compared, tries: usize, mut state: u64) {
-    let tables: Vec<Both> = small_sets()
-        .iter()
-        .flat_map(|samples| SIZES.map(|bucket| Both::of(&longer(&exact(samples, bucket), 5, 11))))
-        .collect();
     let mut edits = random(&mut state);
-    let see = &mut seeing(compared, &mut state);
-    for _ in 0..tries {
-        damage::edited(tables[below(tables.len(), &mut edits)].clone(), &mut edits, see);
-        let (n, m) = (below(40, &mut edits), below(60, &mut edits));
-        see(&any_words(n, &mut edits), &any_words(m, &mut edits));
-    }
+    damage::edits(&SIZES, tries, (40, 60), &mut edits, &mut seeing(compared, &mut state));
 }
 
 #[test]
@@ -760,7 +726,7 @@ fn within_the_stack() {
 fn call_sequences_long() {
     let mut compared = Compared::default();
     (0..60).for_each(|seed| sequences(&mut compared, 120, 150, 1_000 + seed));
-    compared.print_all_seen("call sequences, long");
+    compared.print_all_seen("call sequences, long", CHANGES);
 }
 
 #[test]
@@ -768,7 +734,7 @@ fn call_sequences_long() {
 fn call_sequences_on_large_sets_long() {
     let mut compared = Compared::default();
     (0..20).for_each(|seed| large_sequences(&mut compared, 16, 60, 2_000 + seed));
-    compared.print_all_seen("call sequences on large sets, long");
+    compared.print_all_seen("call sequences on large sets, long", CHANGES);
 }
 
 #[test]
@@ -776,7 +742,7 @@ fn call_sequences_on_large_sets_long() {
 fn damaged_tables_long() {
     let mut compared = Compared::default();
     damaged(&mut compared, 1, 3_000);
-    damaged_large(&mut compared, 20, 3_010);
+    damage::large(20, &mut seeing(&mut compared, &mut 3_010));
     (0..5).for_each(|seed| edited(&mut compared, 100_000, 3_001 + seed));
     compared.print("damaged tables, long");
 }

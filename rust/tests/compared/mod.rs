@@ -1,4 +1,9 @@
-//! Calls that change tables, compared with the straight scan one by one, and counted.
+//! Calls on tables, compared with the straight scan one by one, and counted: those that change them here, queries in
+//! `query`.
+
+#![allow(dead_code)]
+
+pub mod query;
 
 use crate::lent::Lent;
 use crate::sets::shown;
@@ -107,13 +112,22 @@ fn wrapper(tables: &Tables, call: &Call) -> (Answer, Vec<u32>, Vec<u32>) {
     (answer, s, o)
 }
 
-/// The calls, and the numbers that each can give.
-const CALLS: [(&str, &[usize]); 4] = [
+/// The calls, and the numbers that each can give. Queries on tables that are not sound are counted apart.
+const CALLS: [(&str, &[usize]); 8] = [
     ("clear", &[0, 1, 3]),
     ("add", &[0, 1, 2, 4, 5, 6, 7]),
     ("remove", &[0, 1, 2, 8]),
     ("load", &[0, 1, 2, 5, 6, 7, 11, 12]),
+    ("ball", &[0, 1, 9, 13]),
+    ("box", &[0, 1, 9, 13]),
+    ("ball, not sound", &[0, 9, 13]),
+    ("box, not sound", &[0, 9, 13]),
 ];
+
+/// The places of calls that are counted together.
+pub const CHANGES: std::ops::Range<usize> = 0..4;
+pub const QUERIES: std::ops::Range<usize> = 4..6;
+pub const QUERIES_NOT_SOUND: std::ops::Range<usize> = 6..8;
 
 fn place(call: &Call) -> usize {
     match call {
@@ -136,11 +150,11 @@ fn message(tables: &Tables, call: &Call) -> String {
 
 /// Calls that were compared, by call and number.
 #[derive(Default)]
-pub struct Compared([[usize; 13]; 4]);
+pub struct Compared([[usize; 14]; CALLS.len()]);
 
 impl Compared {
-    /// The one comparison: every call goes through it. The library's and the wrapper's answers and every word
-    /// of both tables are the straight scan's. The tables become those that the call leaves.
+    /// The one comparison of calls that change tables: each goes through it. The library's and the wrapper's answers
+    /// and every word of both tables are the straight scan's. The tables become those that the call leaves.
     pub fn call(&mut self, tables: &mut Tables, call: &Call) -> Answer {
         let before = tables.clone();
         let answer = tables.scan(call);
@@ -171,15 +185,15 @@ impl Compared {
             let seen = numbers.iter().filter(|&&number| counts[number] > 0);
             let each: Vec<String> = seen.map(|&number| format!("{number}: {}", counts[number])).collect();
             if !each.is_empty() {
-                println!("  {name:<8}{:>9}   by number {}", counts.iter().sum::<usize>(), each.join(", "));
+                println!("  {name:<16}{:>9}   by number {}", counts.iter().sum::<usize>(), each.join(", "));
             }
         }
     }
 
-    /// The same, where every number was seen of every call that can give it.
-    pub fn print_all_seen(&self, what: &str) {
+    /// The same, where every number was seen of each of these calls that can give it.
+    pub fn print_all_seen(&self, what: &str, calls: std::ops::Range<usize>) {
         self.print(what);
-        for ((name, numbers), counts) in CALLS.iter().zip(self.0) {
+        for ((name, numbers), counts) in CALLS.iter().zip(self.0).skip(calls.start).take(calls.len()) {
             numbers.iter().for_each(|&number| assert!(counts[number] > 0, "{what}: no {name} gave {number}"));
         }
     }

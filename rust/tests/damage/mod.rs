@@ -207,3 +207,107 @@ pub fn any_words(length: usize, state: &mut u64) -> Vec<u32> {
     };
     (0..length).map(|_| word(state)).collect()
 }
+
+/// Each kind of damage, to the small sets with each of these bucket sizes; of the words, every step-th.
+pub fn small(buckets: &[u32], step: usize, state: &mut u64, see: &mut impl FnMut(&[u32], &[u32])) {
+    let bins = small_bins(buckets);
+    for bin in bins.iter().filter(|bin| bin.octant_words < 800) {
+        words_changed(&longer(bin, 5 + 3, 11 + 7), step, see);
+        rows_swapped(bin, see);
+        children_swapped(bin, see);
+        tables_cut(bin, see);
+    }
+    for bin in &bins {
+        zeros_broken(bin, see);
+        counts_changed(bin, see);
+        equal_tags(bin, state, see);
+        rows_left(bin, see);
+    }
+    small_sets().iter().for_each(|samples| codes_past_the_end(samples, see));
+    mixed(&bins, 5 * step, see);
+}
+
+fn small_bins(buckets: &[u32]) -> Vec<Bin> {
+    let sets = small_sets();
+    sets.iter().flat_map(|samples| buckets.iter().map(|&bucket| exact(samples, bucket))).collect()
+}
+
+/// Damage to tables of some hundreds of samples to 4,096; of the words, every step-th or so.
+pub fn large(step: usize, see: &mut impl FnMut(&[u32], &[u32])) {
+    words_changed(&exact(&tagged(scattered(300, 23)), 2), step, see);
+    words_changed(&exact(&tagged(clustered(1_000, 5, 300, 24)), 16), 2 * step + 1, see);
+    words_changed(&exact(&tagged(scattered(4_096, 25)), 16), 9 * step + 2, see);
+    words_changed(&exact(&tagged([[65_535; 3]; 4_096]), 256), 20 * step + 1, see);
+    equal_tags(&exact(&tagged(scattered(4_096, 26)), 16), &mut 27, see);
+}
+
+/// So many times: a few edits at once to a small set's tables, and then any words, fewer than so many of each table.
+pub fn edits(
+    buckets: &[u32],
+    tries: usize,
+    lengths: (usize, usize),
+    state: &mut u64,
+    see: &mut impl FnMut(&[u32], &[u32]),
+) {
+    let tables: Vec<Both> = small_bins(buckets).iter().map(|bin| Both::of(&longer(bin, 5, 11))).collect();
+    for _ in 0..tries {
+        edited(tables[below(tables.len(), state)].clone(), state, see);
+        let (n, m) = (below(lengths.0, state), below(lengths.1, state));
+        see(&any_words(n, state), &any_words(m, state));
+    }
+}
+
+/// Where a word of a row can point, given the row, the rows that there are and a number at random.
+type Pointing = fn(usize, usize, usize) -> usize;
+
+/// To any row, to the row itself, to the next or the one before, to the first or the last, to some row after it, past
+/// the rows, and as far as a word goes.
+const POINTING: [Pointing; 9] = [
+    |_, rows, any| any % rows,
+    |row, _, _| row,
+    |row, rows, _| (row + 1) % rows,
+    |row, rows, _| (row + rows - 1) % rows,
+    |_, _, _| 0,
+    |_, rows, _| rows - 1,
+    |row, rows, any| (row + 1 + any % 9).min(rows - 1),
+    |_, rows, any| rows + any % 3,
+    |_, _, _| u32::MAX as usize,
+];
+
+/// Counts of samples: all, none, one, as many as a word can say, any.
+const COUNTING: [fn(usize, usize) -> usize; 5] =
+    [|rows, _| rows, |_, _| 0, |_, _| 1, |_, _| u32::MAX as usize, |rows, any| any % (rows + 3)];
+
+/// Tables of so many rows in which next words, child words and counts point everywhere, one pair for every combination
+/// of ways to point; of all combinations, every step-th. Codes are in range, but for a few.
+pub fn pointing(
+    sample_rows: usize,
+    octant_rows: usize,
+    step: usize,
+    state: &mut u64,
+    see: &mut impl FnMut(&[u32], &[u32]),
+) {
+    let ways = POINTING.len() * POINTING.len() * COUNTING.len() * COUNTING.len();
+    for way in (0..ways).skip(below(step, state)).step_by(step) {
+        let (next, child) = (POINTING[way % 9], POINTING[way / 9 % 9]);
+        let (count, header) = (COUNTING[way / 81 % 5], COUNTING[way / 405]);
+        let mut any = || below(1 << 40, state);
+        let mut samples = vec![header(sample_rows, any()) as u32, BUCKETS[any() % 4]];
+        for row in 0..sample_rows {
+            let code = |any: usize| match any % 50 {
+                0 => any as u32,
+                _ => any as u32 % 65_536,
+            };
+            samples.extend([any() as u32, code(any()), code(any()), code(any())]);
+            samples.push(next(row, sample_rows, any()) as u32);
+        }
+        let mut octants = vec![header(octant_rows, any()) as u32];
+        for row in 0..octant_rows {
+            octants.push(next(any() % sample_rows, sample_rows, any()) as u32);
+            octants.push(next(any() % sample_rows, sample_rows, any()) as u32);
+            octants.push(count(sample_rows, any()) as u32);
+            octants.extend((0..8).map(|_| child(row, octant_rows, any()) as u32));
+        }
+        see(&samples, &octants);
+    }
+}

@@ -1,0 +1,157 @@
+//! Queries, compared with the straight scan one by one.
+
+use super::{Compared, Tables, QUERIES, QUERIES_NOT_SOUND};
+use crate::lent::Lent;
+use crate::sets::shown;
+use crate::straight_scan::{self, Answer, Bin, Gesture};
+use hubeltxa::{raw, Listed};
+
+/// A listing of so many words, no two equal.
+pub fn listing(length: usize) -> Vec<u32> {
+    (0..length as u32).map(|i| 0xC0DE_0000 + i).collect()
+}
+
+/// An answer for a message: the reports, and the first words of the listing.
+fn brief(answer: &Answer) -> String {
+    let Answer { number, listed, entered, measured, listing, .. } = answer;
+    let words = &listing[..listing.len().min(40)];
+    format!("number {number}, {listed} listed, {entered} entered, {measured} measured, listing {words:?}")
+}
+
+/// The C function, on guarded words, and on three words for the reports that hold something else and have
+/// neighbours. Both tables must be left as they were.
+fn library(tables: &Tables, query: &Gesture, lent: &[u32]) -> Answer {
+    const HELD: u32 = 0xA5A5_A5A5;
+    let mut reports = [HELD; 7];
+    let (mut samples, mut octants) = (Lent::new(&tables.samples), Lent::new(&tables.octants));
+    let mut listing = Lent::new(lent);
+    let number = {
+        let [_, listed, _, entered, _, measured, _] = &mut reports;
+        let (s, o, l) = (samples.within(), octants.within(), listing.within());
+        let (s, s_len, o, o_len, l, l_len) = (s.as_ptr(), s.len(), o.as_ptr(), o.len(), l.as_mut_ptr(), l.len());
+        unsafe {
+            match *query {
+                Gesture::Ball { centre: [r, g, b], radius } => {
+                    raw::hbx_ball(s, s_len, o, o_len, r, g, b, radius, l, l_len, listed, entered, measured)
+                }
+                Gesture::Box { low: [r, g, b], high: [x, y, z] } => {
+                    raw::hbx_box(s, s_len, o, o_len, r, g, b, x, y, z, l, l_len, listed, entered, measured)
+                }
+                Gesture::Near { .. } => unreachable!(),
+            }
+        }
+    };
+    let [before, listed, between, entered, again, measured, after] = reports;
+    assert_eq!([before, between, again, after], [HELD; 4], "a word beside the reports is written");
+    assert!(samples.left() == Some(&tables.samples), "the sample table or what is beside it is changed");
+    assert!(octants.left() == Some(&tables.octants), "the octant table or what is beside it is changed");
+    let listing = listing.left().expect("words beside the listing are written").to_vec();
+    Answer { number, listed, entered, measured, listing, ..Answer::default() }
+}
+
+fn wrapper(tables: &Tables, query: &Gesture, lent: &[u32]) -> Answer {
+    let mut listing = lent.to_vec();
+    let (samples, octants) = (&tables.samples, &tables.octants);
+    let result = match *query {
+        Gesture::Ball { centre, radius } => hubeltxa::ball(samples, octants, centre, radius, &mut listing),
+        Gesture::Box { low, high } => hubeltxa::box_(samples, octants, low, high, &mut listing),
+        Gesture::Near { .. } => unreachable!(),
+    };
+    match result {
+        Ok(given) => {
+            assert_eq!(given.tags(&listing), &listing[..given.listed as usize]);
+            let Listed { listed, entered, measured } = given;
+            Answer { listed, entered, measured, listing, ..Answer::default() }
+        }
+        Err(number) => Answer { number, listing, ..Answer::default() },
+    }
+}
+
+/// What the straight scan answers; nothing on tables that are not sound.
+fn scan(tables: &Tables, query: &Gesture, lent: &[u32]) -> Option<Answer> {
+    match &tables.set {
+        Ok(set) => Some(set.pick(query, lent)),
+        Err(1) => Some(Answer { number: 1, listing: lent.to_vec(), ..Answer::default() }),
+        Err(_) => None,
+    }
+}
+
+/// The most samples and octants that a pass may go through: what the counts say, and the rows that there are.
+fn bounds(tables: &Tables) -> (usize, usize) {
+    let (samples, octants) = (&tables.samples, &tables.octants);
+    let lengths = Bin { samples: vec![], bucket: 1, sample_words: samples.len(), octant_words: octants.len() };
+    (lengths.sample_rows().min(samples[0] as usize), lengths.octant_rows().min(octants[0] as usize))
+}
+
+/// What is promised on tables that are not sound: 9 exactly for a query that is not good, else 0 or 13, and 13 only for
+/// a listing that is shorter than the samples. Nothing written where a number is given, nothing past what is listed
+/// elsewhere, and no more listed, entered and measured than the counts say and there are rows.
+fn safe(tables: &Tables, query: &Gesture, lent: &[u32], given: &Answer) -> bool {
+    let none = straight_scan::start(2, 1, 1).unwrap();
+    let bad = none.pick(query, &[]).number == 9;
+    let (samples, octants) = bounds(tables);
+    let (listed, entered, measured) = (given.listed as usize, given.entered as usize, given.measured as usize);
+    match given.number {
+        0 => {
+            let within = listed <= lent.len() && listed <= samples && entered <= octants && measured <= samples;
+            !bad && within && given.listing[listed..] == lent[listed..]
+        }
+        number => {
+            let refused = Answer { number, listing: lent.to_vec(), ..Answer::default() };
+            let why = if bad { number == 9 } else { number == 13 && lent.len() < samples };
+            why && *given == refused
+        }
+    }
+}
+
+impl Compared {
+    /// The one comparison of queries: each goes through it. On tables that are sound, or too short, the library's and the
+    /// wrapper's answers and every word of the listing are the straight scan's; on others they are safe.
+    pub fn query(&mut self, tables: &Tables, query: &Gesture, lent: &[u32]) -> Answer {
+        let message = || {
+            let words = shown(&tables.samples, &tables.octants);
+            format!("{query:?} with a listing of {} words on {words}", lent.len())
+        };
+        let given = library(tables, query, lent);
+        let answer = scan(tables, query, lent);
+        match &answer {
+            Some(answer) => assert!(
+                given == *answer,
+                "the library's {}; the straight scan's {}: {}",
+                brief(&given),
+                brief(answer),
+                message()
+            ),
+            None => {
+                assert!(safe(tables, query, lent, &given), "the library's {} is not safe: {}", brief(&given), message())
+            }
+        }
+        let wrapped = wrapper(tables, query, lent);
+        assert!(wrapped == given, "the wrapper's {}; the library's {}: {}", brief(&wrapped), brief(&given), message());
+        let calls = if answer.is_some() { QUERIES } else { QUERIES_NOT_SOUND };
+        let place = calls.start + matches!(query, Gesture::Box { .. }) as usize;
+        self.0[place][given.number as usize] += 1;
+        given
+    }
+
+    /// A query with a listing that is longer than the samples; then, where it is good, with listings that are as long as
+    /// the samples, and just as long as what is listed, and with shorter ones, which give 13. That all say the same is
+    /// asked on tables that are not sound too, where one pass must find what two find.
+    pub fn query_at_lengths(&mut self, tables: &Tables, query: &Gesture) -> Answer {
+        let long = self.query(tables, query, &listing(tables.samples.len()));
+        if long.number != 0 {
+            return long;
+        }
+        let listed = long.listed as usize;
+        for length in [bounds(tables).0, listed] {
+            let given = self.query(tables, query, &listing(length));
+            let reports = |answer: &Answer| (answer.number, answer.listed, answer.entered, answer.measured);
+            assert_eq!(reports(&given), reports(&long), "{query:?} with a listing of {length} words");
+            assert_eq!(given.listing[..listed], long.listing[..listed], "{query:?} with a listing of {length} words");
+        }
+        for length in [0, listed / 2, listed.saturating_sub(1)].into_iter().filter(|&length| length < listed) {
+            assert_eq!(self.query(tables, query, &listing(length)).number, 13, "{query:?} with {length} words");
+        }
+        long
+    }
+}
