@@ -1,8 +1,9 @@
 # make              prove every crate, and build target/staticlib/libhubeltxa.a
 # make test         the whole test, from nothing; its last line is rt's verdict
-# make test-long    all 2^32 floats in each channel, and more tables and calls, compared with the straight scan
+# make test-long    all 2^32 floats in each channel, and more tables, calls and queries, compared with the straight scan
 # make definitions  the definitions, compared with the straight scan by computing both
-# make bench        how fast sheets are read and written, beside ordinary Rust, and tables built, checked and changed, beside C++
+# make bench        how fast sheets are read and written, beside ordinary Rust, tables built, checked and changed, beside C++,
+#                   and queries asked, beside C++, nanoflann and FLANN
 # make fmt          format Rattle and Rust
 # make clean        remove what is built
 
@@ -30,6 +31,7 @@ bench:
 	@bench/build
 	@target/bench/tables
 	@target/bench/changes
+	@target/bench/queries
 
 fmt:
 	@rt fmt

@@ -67,23 +67,42 @@ struct Way {
   std::vector<double> times = {};
 };
 
+// A way that the others are compared with, by its place, and the title of that column.
+struct Base {
+  size_t way;
+  const char* title;
+};
+
+// How ways are raced: rounds, those before them that do not count, how many queries a run is (times are of one), the
+// decimals of a time, and the ways that ratios are over.
+struct Race {
+  int rounds = ROUNDS, warm_up = WARM_UP, queries = 1, decimals = 0;
+  std::vector<Base> bases = {{0, "ratio"}};
+};
+
 // Runs each way once a round, in turn, and prints its best and its median round. A ratio is how many
-// times as long as the first way it took.
-static inline void race(const char* title, std::vector<Way> ways) {
-  for (int round = 0; round < WARM_UP + ROUNDS; round++)
+// times as long as a base it took, for the best rounds and for the medians.
+static inline void race(const char* title, std::vector<Way> ways, const Race& how = {}) {
+  for (int round = 0; round < how.warm_up + how.rounds; round++)
     for (auto& way : ways) {
       if (way.prepare) way.prepare();
       double start = now();
       way.run();
       double time = now() - start;
-      if (round >= WARM_UP) way.times.push_back(time);
+      if (round >= how.warm_up) way.times.push_back(time / how.queries);
     }
-  printf("%-44s%10s%10s%9s%9s\n", title, "best us", "median", "ratio", "median");
+  printf("%-44s%10s%10s", title, "best us", "median");
+  for (auto& base : how.bases) printf("%9s%9s", base.title, "median");
+  printf("\n");
   for (auto& way : ways) std::sort(way.times.begin(), way.times.end());
+  auto median = [&](const Way& way) { return way.times[how.rounds / 2]; };
   for (auto& way : ways) {
-    double best = way.times[0], median = way.times[ROUNDS / 2];
-    printf("  %-42s%10.0f%10.0f%9.2f%9.2f\n", way.title.c_str(), best * 1e6, median * 1e6, best / ways[0].times[0],
-           median / ways[0].times[ROUNDS / 2]);
+    printf("  %-42s%10.*f%10.*f", way.title.c_str(), how.decimals, way.times[0] * 1e6, how.decimals, median(way) * 1e6);
+    for (auto& base : how.bases) {
+      const Way& other = ways[base.way];
+      printf("%9.2f%9.2f", way.times[0] / other.times[0], median(way) / median(other));
+    }
+    printf("\n");
   }
   printf("\n");
 }
