@@ -47,9 +47,13 @@ ofChannel red green blue Channel.Red = red
 ofChannel red green blue Channel.Green = green
 ofChannel red green blue Channel.Blue = blue
 
--- Whether the halves of child k add up to less than a limit.
+-- What the halves of child k add up to.
+unfoldable pub childSum : (Channel → Halves) → ℕ → ℕ
+childSum halves k = sumOf (λ h. halfAt (halves h) (k / bitWeight h % 2))
+
+-- Whether they add up to less than a limit.
 unfoldable pub childBelow : (Channel → Halves) → ℕ → ℕ → Bool
-childBelow halves limit k = ltb (sumOf (λ h. halfAt (halves h) (k / bitWeight h % 2))) limit
+childBelow halves limit k = ltb (childSum halves k) limit
 
 -- Both are squares of codes at most, so that three of them fit 64 bits.
 pub record Small (v : Halves) : Type 0 where

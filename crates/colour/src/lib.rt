@@ -3,6 +3,7 @@
 pub mod distance;
 pub mod mask;
 pub mod morton;
+pub mod nearby;
 pub mod octant;
 pub mod overlap;
 pub mod panel;

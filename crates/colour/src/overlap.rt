@@ -172,12 +172,12 @@ pub fn inside(region: Region, cube: Cube) -> bool
 }
 
 // What each half of a channel adds to a child's sum: to the closest d² for a ball, 0 or 1 for a box.
-struct Halves {
-    lower: u64,
-    upper: u64,
+pub struct Halves {
+    pub lower: u64,
+    pub upper: u64,
 }
 
-fn closest_squares(x: u32, low: u32, half: u32) -> Halves
+pub fn closest_squares(x: u32, low: u32, half: u32) -> Halves
     requires { ⌜ (x ≤ 65535) × ((1 ≤ half) × (low + (half + half) ≤ 65536)) ⌝ }
     ensures is { λ r. ⌜ r ≡ halvesOf (closestSquare x) half low ⌝ }
     ensures small { λ r. ⌜ Small r ⌝ }

@@ -13,7 +13,7 @@ use Rattle.colour.specs.Colour.{Channel, Red, Green, Blue, codeIn, each,
 use Rattle.colour.specs.Octant.{bitWeight, children, childLow}
 use Rattle.colour.specs.Region.{closest, overlaps}
 use Rattle.colour.specs.Mask.{bitIf, maskOf, overlapMask}
-use Rattle.colour.specs.Steps.{closestSquare, noes, missed, added, limitOf, halvesOf, halfAt, ofChannel, childBelow}
+use Rattle.colour.specs.Steps.{closestSquare, noes, missed, added, limitOf, halvesOf, halfAt, ofChannel, childSum, childBelow}
 use Rattle.colour.proofs.Laws.Channels.{sum-same, code-by}
 use Rattle.colour.proofs.Laws.Octants.{child-code}
 use Rattle.colour.proofs.Laws.Mask.{mask-same}
@@ -33,10 +33,15 @@ each-noes f = go (f Red) (f Green) (f Blue)
     go false false true = refl
     go false false false = refl
 
+-- d² to an octant's closest colour is what its channels add up to.
+pub closest-added : (c : Colour) (s : ℕ) (low : Colour) → distance c (closest c s low) ≡ sumOf (λ h. closestSquare (codeIn h c) s (codeIn h low))
+unfolding closestSquare distance closest
+closest-added c s low = sum-same _ _ (λ h. ap (λ (n : ℕ). apart (codeIn h c) n * apart (codeIn h c) n) (code-by _ h))
+
 -- An octant overlaps a region exactly where its channels add up to less than the region's limit.
 pub overlaps-added : (R : Region) (s : ℕ) (low : Colour) → overlaps R s low ≡ ltb (sumOf (λ h. added R h s (codeIn h low))) (limitOf R)
-unfolding overlaps added limitOf closestSquare missed distance closest
-overlaps-added (Ball c r) s low = ap (λ (n : ℕ). ltb n (r * r)) (sum-same _ _ (λ h. ap (λ (n : ℕ). apart (codeIn h c) n * apart (codeIn h c) n) (code-by _ h)))
+unfolding overlaps added limitOf missed
+overlaps-added (Ball c r) s low = ap (λ (n : ℕ). ltb n (r * r)) (closest-added c s low)
 overlaps-added (Box a b) s low = each-noes _
 
 -- The half of a bit starts at low, or s above it.
@@ -49,17 +54,21 @@ half-at f s low n = go (n % 2) (omega arith)
     go (suc zero) h = ap (f s) (omega arith)
     go (suc (suc b)) h = absurd (omega arith)
 
+-- A child's sum is what its own channels add up to.
+pub child-sum : (f : Channel → ℕ → ℕ → ℕ) (s : ℕ) (low : Colour) (halves : Channel → Halves) → ((h : Channel) → halves h ≡ halvesOf (f h) s (codeIn h low))
+    → (k : ℕ) → childSum halves k ≡ sumOf (λ h. f h s (codeIn h (childLow s k low)))
+unfolding childSum
+child-sum f s low halves e k =
+    sum-same _ _
+    (λ h. ap (λ (v : Halves). halfAt v (k / bitWeight h % 2)) (e h) ∙ half-at (f h) s (codeIn h low) (k / bitWeight h)
+    ∙ ap (f h s) (sym (child-code s k low h)))
+
 -- The children whose halves add up to less than the limit are those that overlap.
 module _ (R : Region) (s : ℕ) (low : Colour) where
   child-below : (halves : Channel → Halves) → ((h : Channel) → halves h ≡ halvesOf (added R h) s (codeIn h low))
       → (k : ℕ) → childBelow halves (limitOf R) k ≡ overlaps R s (childLow s k low)
   unfolding childBelow
-  child-below halves e k = ap (λ (n : ℕ). ltb n (limitOf R)) (sum-same _ _ half) ∙ sym (overlaps-added R s (childLow s k low))
-    where
-      half : (h : Channel) → halfAt (halves h) (k / bitWeight h % 2) ≡ added R h s (codeIn h (childLow s k low))
-      half h =
-          ap (λ (v : Halves). halfAt v (k / bitWeight h % 2)) (e h) ∙ half-at (added R h) s (codeIn h low) (k / bitWeight h)
-          ∙ ap (added R h s) (sym (child-code s k low h))
+  child-below halves e k = ap (λ (n : ℕ). ltb n (limitOf R)) (child-sum (added R) s low halves e k) ∙ sym (overlaps-added R s (childLow s k low))
 
   -- A mask by halves that are known to be the region's, and by its limit.
   pub mask-overlaps : {red green blue : Halves} {limit m : ℕ}

@@ -2,7 +2,7 @@
 use borrow.Author.Needs.{needs}
 use Rattle.colour.specs.Colour.{sumOf}
 use Rattle.colour.specs.Octant.{bitWeight}
-use Rattle.colour.specs.Steps.{halfAt, ofChannel, childBelow}
+use Rattle.colour.specs.Steps.{halfAt, ofChannel, childSum, childBelow}
 use Rattle.colour.proofs.Laws.Halves.{mask-bits}
 use Rattle.colour.proofs.overlap.mask.Statement.{statement}
 use Rattle.colour.proofs.overlap.mask.Tie as tie
@@ -53,7 +53,7 @@ add-result-7 : tie.Need-add-result-7
 add-result-7 c = search needs
 
 returns : tie.Need-returns
-unfolding childBelow sumOf halfAt ofChannel bitWeight
+unfolding childBelow childSum sumOf halfAt ofChannel bitWeight
 returns c = (
   rw (
     c .before .before .before .before .before .before .before .bit .ensures .0,
