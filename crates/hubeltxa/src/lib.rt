@@ -5,8 +5,9 @@ use colour::Query;
 use colour::Sample;
 use colour::panel::Codes;
 use colour::panel::Floats;
-use query::answers::Listed;
-ghost use mathlib.Core.List.{[]};
+use query::answers::Reply;
+ghost use Prim.Native.Nat.{ℕ, _≤_};
+ghost use mathlib.Core.List.{List, []};
 ghost use mathlib.Core.Path.{_≡_};
 ghost use Rattle.colour.specs.Panel.{floatsToCodes, codesToFloats};
 ghost use Rattle.sheet.specs.Line.{writeLine};
@@ -14,8 +15,8 @@ ghost use Rattle.sheet.specs.Sheet.{namePart};
 ghost use Rattle.model.specs.Tables.{pair};
 ghost use Rattle.model.specs.Machine.{Clear, Add, Remove, Load, plain, loadAnswer};
 ghost use Rattle.model.specs.Meets.{Meets};
-ghost use Rattle.query.specs.Answers.{ListMeets};
-ghost use Rattle.hubeltxa.specs.Lent.{colourOf, panelColourOf, sampleOf, codesLent, floatsLent, lineLent, partLent, CheckLent, listLent, Told};
+ghost use Rattle.query.specs.Answers.{AskMeets};
+ghost use Rattle.hubeltxa.specs.Lent.{colourOf, panelColourOf, sampleOf, codesLent, floatsLent, lineLent, partLent, CheckLent, listLent, isFound, nearLent, Told, ToldNear};
 
 // Floats to codes.
 #[no_mangle]
@@ -160,10 +161,10 @@ pub extern "C" fn hbx_load(
 }
 
 // What a ball or a box answers: the number is returned, and the counts go to the words lent for them.
-fn tell(answer: Listed, listed: &mut u32, entered: &mut u32, measured: &mut u32) -> u32
-    ensures { λ r. ⌜ Told answer r (now (listed .exit)) (now (entered .exit)) (now (measured .exit)) ⌝ }
+fn tell(reply: Reply, listed: &mut u32, entered: &mut u32, measured: &mut u32) -> u32
+    ensures { λ r. ⌜ Told reply r (now (listed .exit)) (now (entered .exit)) (now (measured .exit)) ⌝ }
 {
-    let told = query::answers::report_of(answer);
+    let told = query::answers::report_of(reply);
     *listed = told.listed;
     *entered = told.entered;
     *measured = told.measured;
@@ -184,11 +185,11 @@ pub extern "C" fn hbx_ball(
     entered: &mut u32,
     measured: &mut u32,
 ) -> u32
-    ensures { λ r. ⌜ ListMeets (Query.Ball (panelColourOf red green blue) radius) (now (listing .entry)) (pair (now (samples .entry)) (now (octants .entry))) (listLent r (now (listed .exit)) (now (entered .exit)) (now (measured .exit)) (now (listing .exit))) ⌝ }
+    ensures { λ r. ⌜ AskMeets (Query.Ball (panelColourOf red green blue) radius) (now (listing .entry)) (pair (now (samples .entry)) (now (octants .entry))) (listLent r (now (listed .exit)) (now (entered .exit)) (now (measured .exit)) (now (listing .exit))) ⌝ }
 {
     let centre = PanelColour { red, green, blue };
-    let answer = query::list::ball(samples, octants, centre, radius, listing);
-    tell(answer, listed, entered, measured)
+    let reply = query::ask::ball(samples, octants, centre, radius, listing);
+    tell(reply, listed, entered, measured)
 }
 
 // Lists the samples in a box, and says the same.
@@ -207,7 +208,7 @@ pub extern "C" fn hbx_box(
     entered: &mut u32,
     measured: &mut u32,
 ) -> u32
-    ensures { λ r. ⌜ ListMeets (Query.Box (panelColourOf «low_red» «low_green» «low_blue») (panelColourOf «high_red» «high_green» «high_blue»)) (now (listing .entry)) (pair (now (samples .entry)) (now (octants .entry))) (listLent r (now (listed .exit)) (now (entered .exit)) (now (measured .exit)) (now (listing .exit))) ⌝ }
+    ensures { λ r. ⌜ AskMeets (Query.Box (panelColourOf «low_red» «low_green» «low_blue») (panelColourOf «high_red» «high_green» «high_blue»)) (now (listing .entry)) (pair (now (samples .entry)) (now (octants .entry))) (listLent r (now (listed .exit)) (now (entered .exit)) (now (measured .exit)) (now (listing .exit))) ⌝ }
 {
     let low = PanelColour {
         red: low_red,
@@ -219,8 +220,48 @@ pub extern "C" fn hbx_box(
         green: high_green,
         blue: high_blue,
     };
-    let answer = query::list::boxed(samples, octants, low, high, listing);
-    tell(answer, listed, entered, measured)
+    let reply = query::ask::boxed(samples, octants, low, high, listing);
+    tell(reply, listed, entered, measured)
+}
+
+// Whether one was found, as a number.
+fn found_or_none(found: bool) -> u32
+    ensures is { λ r. ⌜ isFound r ≡ found ⌝ }
+    ensures bit { λ r. ⌜ r ≤ 1 ⌝ }
+{
+    if found { 1 } else { 0 }
+}
+
+// What a nearest query answers: the number is returned, and what was found goes to the words lent for it.
+fn tell_near(reply: Reply, found: &mut u32, tag: &mut u32, distance: &mut u64) -> u32
+    ensures { λ r. ⌜ ToldNear reply r (now (found .exit)) (now (tag .exit)) (now (distance .exit)) ⌝ }
+{
+    let near = query::answers::report_of(reply);
+    *found = found_or_none(near.found);
+    *tag = near.tag;
+    *distance = near.distance;
+    near.number
+}
+
+// Finds the nearest sample within a radius, and says its tag and its squared distance. It lends no listing, and promises its answer with any.
+#[no_mangle]
+pub extern "C" fn hbx_near(
+    samples: &[u32],
+    octants: &[u32],
+    red: f32,
+    green: f32,
+    blue: f32,
+    radius: f32,
+    found: &mut u32,
+    tag: &mut u32,
+    distance: &mut u64,
+) -> u32
+    ensures { λ r. ⌜ ((lent : List ℕ) → AskMeets (Query.Nearest (panelColourOf red green blue) radius) lent (pair (now (samples .entry)) (now (octants .entry))) (nearLent r (now (found .exit)) (now (tag .exit)) (now (distance .exit)) lent)) ⌝ }
+    ensures bit { λ _. ⌜ now (found .exit) ≤ 1 ⌝ }
+{
+    let from = PanelColour { red, green, blue };
+    let reply = query::ask::nearest(samples, octants, from, radius);
+    tell_near(reply, found, tag, distance)
 }
 
 // What the checking call says.

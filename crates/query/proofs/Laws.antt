@@ -1,5 +1,3 @@
--- What the proofs of the functions cite.
-pub mod Pass
-pub mod Steps
-pub mod Sound
-pub mod Answers
+-- What the proofs of the calls cite.
+pub mod Answered
+pub mod Asked

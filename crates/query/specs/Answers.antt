@@ -1,10 +1,11 @@
--- What a ball or a box answers (document 01, "Picks" and "Questions"): the paper's number and values for each case of the enum, and the answer
--- on any words at all, by the pass over them.
-use Prim.Native.Nat.{ℕ, _≤_}
+-- What a query answers (document 01, "Picks" and "Questions"): the paper's number and values for each case of the enum, and the answer on any words at
+-- all, by the pass or the search over them.
+use Prim.Native.Nat.{ℕ, _*_, _≤_}
 use mathlib.Core.Bool.{true, false}
 use mathlib.Core.List.{List}
 use mathlib.Core.Path.{_≡_}
 use lib.ListN.{length}
+use Rattle.colour.specs.declared.Colour.{Colour}
 use Rattle.colour.specs.declared.Query.{Query}
 use Rattle.colour.specs.declared.Region.{Region}
 use Rattle.colour.specs.declared.panel.Asked.{Asked}
@@ -12,59 +13,53 @@ use Rattle.colour.specs.declared.panel.Asked.the-variants as A
 use Rattle.colour.specs.Query.{askedOf}
 use Rattle.model.specs.Layout.{current}
 use Rattle.model.specs.Tables.{Tables}
-use Rattle.model.specs.Queries.{Counts, noCounts}
-use Rattle.model.specs.Machine.{Ask, Answer, plain, listAnswer, listingAnswer}
+use Rattle.model.specs.Machine.{Ask, Answer, plain, listAnswer, nearestAnswer}
 use Rattle.model.specs.Sound.{longEnough}
 use Rattle.model.specs.Meets.{Meets}
 use Rattle.words.specs.Rows.{octantLimit, sampleBudget}
-use Rattle.query.specs.declared.answers.Listed.{Listed}
-use Rattle.query.specs.declared.answers.Listed.the-variants as L
-use Rattle.query.specs.Pass.{Visit, passOf}
+use Rattle.listing.specs.Pass.{passOf}
+use Rattle.listing.specs.Answers.{passAnswer}
+use Rattle.nearest.specs.Best.{bestAnswer}
+use Rattle.nearest.specs.Search.{searchAll}
+use Rattle.query.specs.declared.answers.Report.{Report}
+use Rattle.query.specs.declared.answers.Reply.{Reply}
+use Rattle.query.specs.declared.answers.Reply.the-variants as R
 
--- Ball and box: questions 1, 9, 13.
-unfoldable pub listedNumber : Listed → ℕ
-listedNumber (L.All listed entered measured) = 0
-listedNumber L.TooShort = 1
-listedNumber L.NotQuery = 9
-listedNumber L.NoRoom = 13
+-- The paper's number and values for each case; `lent` is the listing as it is left. Questions 1, 9 and 13.
+unfoldable pub replyAnswer : Reply → List ℕ → Answer
+replyAnswer (R.Listed listed entered measured) lent = listAnswer 0 listed (record { entered = entered; measured = measured }) lent
+replyAnswer (R.Found tag distance) lent = nearestAnswer 0 true tag distance lent
+replyAnswer R.Nothing lent = nearestAnswer 0 false 0 0 lent
+replyAnswer R.TooShort lent = plain 1 lent
+replyAnswer R.NotQuery lent = plain 9 lent
+replyAnswer R.NoRoom lent = plain 13 lent
 
--- How many tags were listed.
-unfoldable pub listedCount : Listed → ℕ
-listedCount (L.All listed entered measured) = listed
-listedCount L.TooShort = 0
-listedCount L.NotQuery = 0
-listedCount L.NoRoom = 0
+-- The answer that a report says, with a listing as it is left.
+unfoldable pub reportAnswer : Report → List ℕ → Answer
+reportAnswer r lent =
+    record {
+      number = r .number;
+      taken = 0;
+      listed = r .listed;
+      entered = r .entered;
+      measured = r .measured;
+      found = r .found;
+      tag = r .tag;
+      distance = r .distance;
+      listing = lent;
+    }
 
--- What was entered and measured.
-unfoldable pub listedCounts : Listed → Counts
-listedCounts (L.All listed entered measured) = record { entered = entered; measured = measured }
-listedCounts L.TooShort = noCounts
-listedCounts L.NotQuery = noCounts
-listedCounts L.NoRoom = noCounts
-
--- The answer, with the listing as it is left.
-unfoldable pub listedAnswer : Listed → List ℕ → Answer
-listedAnswer r listing = listAnswer (listedNumber r) (listedCount r) (listedCounts r) listing
-
--- What a pass counted.
-unfoldable pub countsOf : Visit → Counts
-countsOf v = record { entered = v .after .entered; measured = v .after .measured }
-
--- What a pass answers, with a listing as lent.
-unfoldable pub passAnswer : Visit → List ℕ → Answer
-passAnswer v lent = listingAnswer (v .tags) (countsOf v) lent
-
--- A query that is taken apart, on any words, or refused by question 9. (Nearest is not asked here.)
+-- A query that is taken apart, on any words, or refused by question 9.
 unfoldable pub rawAsked : Tables → Asked → List ℕ → Answer
 rawAsked t (A.List R) lent = passAnswer (passOf (t .samples) (t .octants) R) lent
-rawAsked t (A.Nearest c r) lent = plain 9 lent
+rawAsked t (A.Nearest c r) lent = bestAnswer (r * r) (searchAll (t .samples) (t .octants) c r .best) lent
 rawAsked t A.Refused lent = plain 9 lent
 
--- Question 1, and then that: the answer of a ball or a box on any words at all.
+-- Question 1, and then that: the answer of a query on any words at all.
 unfoldable pub rawAnswer : Tables → Query → List ℕ → Answer
 rawAnswer t q lent = elim (longEnough current t) [ true ↦ rawAsked t (askedOf q) lent | false ↦ plain 1 lent ]
 
--- What a ball or a box costs and needs on any words at all.
+-- What a query costs and needs on any words at all.
 pub record Bounds (lent : List ℕ) (t : Tables) (a : Answer) : Type 0 where
   -- no more octants entered than the octant table counts and has
   pub entered : a .entered ≤ octantLimit current (t .octants)
@@ -73,12 +68,14 @@ pub record Bounds (lent : List ℕ) (t : Tables) (a : Answer) : Type 0 where
   pub measured : a .measured ≤ sampleBudget current (t .samples)
   -- nor visited, measured or taken whole, in a pass, whatever it looks for
   pub visited : (R : Region) → passOf (t .samples) (t .octants) R .after .visited ≤ sampleBudget current (t .samples)
+  -- and so in a search
+  pub searched : (c : Colour) (r : ℕ) → searchAll (t .samples) (t .octants) c r .visited ≤ sampleBudget current (t .samples)
+  pub reached : (c : Colour) (r : ℕ) → searchAll (t .samples) (t .octants) c r .entered ≤ octantLimit current (t .octants)
   -- a listing that long is never too short
   pub room : sampleBudget current (t .samples) ≤ length lent → a .number ≡ 13 → ⊥
 
--- The contract of a ball and of a box, whose tables are only read: what document 01 says of the call; the answer and the listing, named on any words;
--- and the bounds.
-pub record ListMeets (q : Query) (lent : List ℕ) (t : Tables) (a : Answer) : Type 0 where
+-- The contract of a query, whose tables are only read: what document 01 says of the call; the answer and the listing, named on any words; and the bounds.
+pub record AskMeets (q : Query) (lent : List ℕ) (t : Tables) (a : Answer) : Type 0 where
   pub meets : Meets (Ask q lent) t a t
   pub named : a ≡ rawAnswer t q lent
   pub bounds : Bounds lent t a

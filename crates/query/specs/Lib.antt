@@ -1,4 +1,2 @@
--- Queries over any words of the tables.
-pub mod Pass
+-- What the queries answer.
 pub mod Answers
-pub mod Steps

@@ -1,50 +1,97 @@
-// What a ball or a box answers, and the paper's numbers for it.
+// What a query answers, and the paper's numbers and values for it.
+use listing::list::Listed;
+use nearest::best::Best;
+ghost use mathlib.Core.Bool.{false};
+ghost use mathlib.Core.List.{List};
 ghost use mathlib.Core.Path.{_≡_};
-ghost use Rattle.query.specs.Answers.{listedNumber, listedCount, listedCounts};
+ghost use Prim.Native.Nat.{ℕ};
+ghost use Rattle.listing.specs.Answers.{listedAnswer};
+ghost use Rattle.nearest.specs.Best.{bestAnswer};
+ghost use Rattle.query.specs.Answers.{replyAnswer, reportAnswer};
 
-// What became of a ball or a box: all were listed, so many, with octants entered and samples measured; or a refusal by 1, 9 or 13.
-pub enum Listed {
-    All(u32, u32, u32),
+// What became of a query: all were listed, so many, with octants entered and samples measured; one was found, its tag and d², or none; or a refusal
+// by 1, 9 or 13.
+pub enum Reply {
+    Listed(u32, u32, u32),
+    Found(u32, u64),
+    Nothing,
     TooShort,
     NotQuery,
     NoRoom,
 }
 
-// The number, and how many were listed, entered and measured.
+// The number, and all that is reported.
 pub struct Report {
     pub number: u32,
     pub listed: u32,
     pub entered: u32,
     pub measured: u32,
+    pub found: bool,
+    pub tag: u32,
+    pub distance: u64,
 }
 
-// A refusal reports nothing.
-fn refused(number: u32) -> Report
-    ensures { λ r. ⌜ r ≡ record { number = number; listed = 0; entered = 0; measured = 0 } ⌝ }
+// A number alone.
+fn plain(number: u32) -> Report
+    ensures { λ r. ⌜ r ≡ record { number = number; listed = 0; entered = 0; measured = 0; found = false; tag = 0; distance = 0 } ⌝ }
 {
     Report {
         number,
         listed: 0,
         entered: 0,
         measured: 0,
+        found: false,
+        tag: 0,
+        distance: 0,
     }
 }
 
-// What a ball or a box reports.
-pub fn report_of(answer: Listed) -> Report
-    ensures number { λ r. ⌜ r .number ≡ listedNumber answer ⌝ }
-    ensures listed { λ r. ⌜ r .listed ≡ listedCount answer ⌝ }
-    ensures counts { λ r. ⌜ record { entered = r .entered; measured = r .measured } ≡ listedCounts answer ⌝ }
+// What a query reports, whatever its listing.
+pub fn report_of(reply: Reply) -> Report
+    ensures { λ r. ⌜ ((lent : List ℕ) → reportAnswer r lent ≡ replyAnswer reply lent) ⌝ }
 {
-    match answer {
-        Listed::All(listed, entered, measured) => Report {
+    match reply {
+        Reply::Listed(listed, entered, measured) => Report {
             number: 0,
             listed,
             entered,
             measured,
+            found: false,
+            tag: 0,
+            distance: 0,
         },
-        Listed::TooShort => refused(1),
-        Listed::NotQuery => refused(9),
-        Listed::NoRoom => refused(13),
+        Reply::Found(tag, distance) => Report {
+            number: 0,
+            listed: 0,
+            entered: 0,
+            measured: 0,
+            found: true,
+            tag,
+            distance,
+        },
+        Reply::Nothing => plain(0),
+        Reply::TooShort => plain(1),
+        Reply::NotQuery => plain(9),
+        Reply::NoRoom => plain(13),
     }
+}
+
+// A listing's answer.
+pub fn of_listed(listed: Listed) -> Reply
+    ensures { λ r. ⌜ ((lent : List ℕ) → replyAnswer r lent ≡ listedAnswer listed lent) ⌝ }
+{
+    match listed {
+        Listed::All(listed, entered, measured) => Reply::Listed(listed, entered, measured),
+        Listed::NoRoom => Reply::NoRoom,
+    }
+}
+
+// The answer of a search that began with a limit.
+pub fn of_best(best: Best, limit: u64) -> Reply
+    ensures { λ r. ⌜ ((lent : List ℕ) → replyAnswer r lent ≡ bestAnswer limit best lent) ⌝ }
+{
+    if best.distance < limit {
+        return Reply::Found(best.tag, best.distance);
+    }
+    Reply::Nothing
 }

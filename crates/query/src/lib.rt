@@ -1,6 +1,3 @@
-// Ball and box over the tables. Nothing in the tables is trusted: on any words at all a pass ends within what it is lent.
+// The queries: ball, box and nearest over panel floats, and the entry that takes a query apart.
 pub mod answers;
-mod follow;
-pub mod list;
-mod tally;
-mod visit;
+pub mod ask;

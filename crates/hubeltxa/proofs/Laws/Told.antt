@@ -1,16 +1,19 @@
 -- What a call's enum says, as the number that is returned and the words that are lent for the rest.
 use Prim.Native.Nat.{ℕ}
+use mathlib.Core.Bool.{Bool, true, false}
 use mathlib.Core.List.{List, []}
 use mathlib.Core.Path.{_≡_, sym, ap, ap₂, _∙_, subst}
 use Rattle.colour.specs.declared.Query.{Query}
 use Rattle.colour.specs.declared.Sample.{Sample}
 use Rattle.model.specs.Tables.{Tables}
 use Rattle.model.specs.Queries.{Counts}
-use Rattle.model.specs.Machine.{Call, Add, Answer, plain, loadAnswer, listAnswer}
-use Rattle.model.specs.Meets.{Meets}
-use Rattle.query.specs.declared.answers.Listed.{Listed}
-use Rattle.query.specs.Answers.{listedNumber, listedCount, listedAnswer, ListMeets}
-use Rattle.hubeltxa.specs.Lent.{Told}
+use Rattle.model.specs.Machine.{Call, Add, Answer, plain, loadAnswer, listAnswer, nearestAnswer}
+use Rattle.model.specs.Meets.{Meets, lists, ownReports}
+use Rattle.query.specs.declared.answers.Reply.{Reply}
+use Rattle.query.specs.Answers.{replyAnswer, AskMeets}
+use Rattle.query.proofs.Laws.Answered.{own-reports}
+use Rattle.query.proofs.Laws.Asked.{reply-listing}
+use Rattle.hubeltxa.specs.Lent.{isFound, Told, ToldNear}
 use Rattle.samples.specs.declared.answers.Changed.{Changed}
 use Rattle.samples.specs.declared.answers.Loaded.{Loaded}
 use Rattle.samples.specs.Answers.{changedNumber, changedAnswer, loadedNumber, loadedTaken, loadedAnswer}
@@ -32,12 +35,31 @@ pub add-told : (s s′ : Sample) (t t′ : Tables) (a : Answer) → s ≡ s′ �
 add-told s s′ t t′ a e told = subst (λ (x : Sample). Meets (Add x) t a t′) e told
 
 -- A ball or a box gives back what it answers.
-pub listed-told : (q : Query) (l : List ℕ) (t : Tables) (a : Listed) (n listed entered measured : ℕ) (listing : List ℕ)
-    → Told a n listed entered measured → ListMeets q l t (listedAnswer a listing)
-    → ListMeets q l t (listAnswer n listed (record { entered = entered; measured = measured }) listing)
-unfolding listedAnswer
-listed-told q l t a n listed entered measured listing d told =
-    let same : listAnswer n listed (record { entered = entered; measured = measured }) listing ≡ listedAnswer a listing =
-    ap₂ (λ (x y : ℕ). listAnswer x y (record { entered = entered; measured = measured }) listing) (d .number-is) (d .listed-is)
-    ∙ ap (λ (c : Counts). listAnswer (listedNumber a) (listedCount a) c listing) (d .counts-are) in
-    subst (ListMeets q l t) (sym same) told
+pub listed-told : (q : Query) (l : List ℕ) (t : Tables) → lists q ≡ true → (a : Reply) (n listed entered measured : ℕ) (listing : List ℕ)
+    → Told a n listed entered measured → AskMeets q l t (replyAnswer a listing)
+    → AskMeets q l t (listAnswer n listed (record { entered = entered; measured = measured }) listing)
+unfolding ownReports
+listed-told q l t is a n listed entered measured listing d told =
+    let x : Answer = replyAnswer a listing in
+    let counts : _≡_ {A = Counts} (record { entered = entered; measured = measured }) (record { entered = x .entered; measured = x .measured }) =
+    λ i. record { entered = d .entered-is listing i; measured = d .measured-is listing i } in
+    let own : x ≡ listAnswer (x .number) (x .listed) (record { entered = x .entered; measured = x .measured }) (x .listing) =
+    own-reports q l t x told ∙ rw (is, ownReports) in
+    let same : listAnswer n listed (record { entered = entered; measured = measured }) listing ≡ x =
+    ap₂ (λ (y z : ℕ). listAnswer y z (record { entered = entered; measured = measured }) listing) (d .number-is listing) (d .listed-is listing)
+    ∙ ap₂ (λ (c : Counts) (y : List ℕ). listAnswer (x .number) (x .listed) c y) counts (sym (reply-listing a listing))
+    ∙ sym own in
+    subst (AskMeets q l t) (sym same) told
+
+-- A nearest query too, with any listing.
+pub near-told : (q : Query) (t : Tables) → lists q ≡ false → (a : Reply) (n found tag distance : ℕ) → ToldNear a n found tag distance
+    → ((l : List ℕ) → AskMeets q l t (replyAnswer a l)) → (l : List ℕ) → AskMeets q l t (nearestAnswer n (isFound found) tag distance l)
+unfolding ownReports
+near-told q t is a n found tag distance d told l =
+    let x : Answer = replyAnswer a l in
+    let own : x ≡ nearestAnswer (x .number) (x .found) (x .tag) (x .distance) l = own-reports q l t x (told l) ∙ rw (is, ownReports) in
+    let same : nearestAnswer n (isFound found) tag distance l ≡ x =
+    ap₂ (λ (y : ℕ) (f : Bool). nearestAnswer y f tag distance l) (d .number-is l) (d .found-is l)
+    ∙ ap₂ (λ (y z : ℕ). nearestAnswer (x .number) (x .found) y z l) (d .tag-is l) (d .distance-is l)
+    ∙ sym own in
+    subst (AskMeets q l t) (sym same) (told l)

@@ -1,4 +1,6 @@
 -- `hbx_ball`: what ball and tell ensure.
+use mathlib.Core.Path.{refl}
+use Rattle.model.specs.Meets.{lists}
 use Rattle.hubeltxa.proofs.Laws.Told.{listed-told}
 use borrow.Author.Needs.{needs}
 use Rattle.hubeltxa.proofs.hbx_ball.Statement.{statement}
@@ -14,9 +16,10 @@ same-length : tie.Need-same-length
 same-length c = search needs
 
 returns : tie.Need-returns
+unfolding lists
 returns c =
     let a = c .before .before .before .before .before .before .ball in
-    listed-told _ _ _ (a .result) _ _ _ _ _ (c .tell .ensures) (a .ensures)
+    listed-told _ _ _ refl (a .result) _ _ _ _ _ (c .tell .ensures) (a .ensures)
 
 pub hbx-ball-spec : {M : Type 1} → statement M
 hbx-ball-spec = tie.close (tie.spec ball-requires tell-requires same-length returns)

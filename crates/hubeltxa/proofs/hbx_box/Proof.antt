@@ -1,4 +1,6 @@
 -- `hbx_box`: what boxed and tell ensure.
+use mathlib.Core.Path.{refl}
+use Rattle.model.specs.Meets.{lists}
 use Rattle.hubeltxa.proofs.Laws.Told.{listed-told}
 use borrow.Author.Needs.{needs}
 use Rattle.hubeltxa.proofs.hbx_box.Statement.{statement}
@@ -14,9 +16,10 @@ same-length : tie.Need-same-length
 same-length c = search needs
 
 returns : tie.Need-returns
+unfolding lists
 returns c =
     let a = c .before .before .before .before .before .before .boxed in
-    listed-told _ _ _ (a .result) _ _ _ _ _ (c .tell .ensures) (a .ensures)
+    listed-told _ _ _ refl (a .result) _ _ _ _ _ (c .tell .ensures) (a .ensures)
 
 pub hbx-box-spec : {M : Type 1} → statement M
 hbx-box-spec = tie.close (tie.spec boxed-requires tell-requires same-length returns)

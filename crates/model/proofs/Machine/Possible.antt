@@ -50,7 +50,7 @@ module _ (m : Machine) (t : Tables) (s : Shows current m t) where
 
 -- A query that refuses on unsound tables keeps within what question 2 leaves it, where it may give the number: 9 exactly for a query that is not as
 -- Gestures says, unless it is 2.
-nothing-reported : (q : Query) (l : List ℕ) (n : ℕ) → plain n l ≡ ownReports q l (plain n l)
+pub nothing-reported : (q : Query) (l : List ℕ) (n : ℕ) → plain n l ≡ ownReports q l (plain n l)
 unfolding ownReports plain nearestAnswer listAnswer
 nothing-reported q l n = go (lists q) refl
   where

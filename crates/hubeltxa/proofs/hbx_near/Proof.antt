@@ -1,0 +1,22 @@
+-- `hbx_near`: what nearest and tell_near ensure.
+use mathlib.Core.Path.{refl}
+use borrow.Author.Needs.{needs}
+use Rattle.model.specs.Meets.{lists}
+use Rattle.hubeltxa.proofs.Laws.Told.{near-told}
+use Rattle.hubeltxa.proofs.hbx_near.Statement.{statement}
+use Rattle.hubeltxa.proofs.hbx_near.Tie as tie
+
+nearest-requires : tie.Need-nearest-requires
+nearest-requires c κs = search needs
+
+tell-near-requires : tie.Need-tell-near-requires
+tell-near-requires c κs = search needs
+
+returns : tie.Need-returns
+unfolding lists
+returns c =
+    let a = c .before .before .before .before .nearest in
+    (near-told _ _ refl (a .result) _ _ _ _ (c .tell-near .ensures) (a .ensures), c .tell-near .ensures .bit)
+
+pub hbx-near-spec : {M : Type 1} → statement M
+hbx-near-spec = tie.close (tie.spec nearest-requires tell-near-requires returns)

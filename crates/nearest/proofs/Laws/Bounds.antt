@@ -1,0 +1,106 @@
+-- On any words at all a search enters no more octants than the octant table counts and has, and visits no more samples than the sample table counts
+-- and has: a hostile table costs no more than a full one.
+use Prim.Native.Nat.{ℕ, zero, suc, _^_, _<_}
+use mathlib.Core.Bool.{Bool, true, false, _&&_, and-eq-true-iff}
+use mathlib.Core.List.{List}
+use mathlib.Core.Path.{_≡_, refl}
+use native.Mathlib.Omega.{arith}
+use borrow.Author.Tests.{ltb-true}
+use lib.Dec.{ltb}
+use Rattle.colour.specs.declared.Colour.{Colour}
+use Rattle.colour.specs.Colour.{black, distance}
+use Rattle.colour.specs.Octant.{depths, children, childLow}
+use Rattle.colour.specs.Region.{closest}
+use Rattle.model.specs.Layout.{Bucket, Count, Child, current}
+use Rattle.words.specs.Rows.{settingIn, octantField, octantLimit, sampleBudget}
+use Rattle.traversal.specs.Own.{endsAt}
+use Rattle.traversal.proofs.Laws.Rows.{own-few}
+use Rattle.nearest.specs.declared.search.Search.{Search}
+use Rattle.nearest.specs.Best.{closer}
+use Rattle.nearest.specs.Turns.{inTurn}
+use Rattle.nearest.specs.Search.{entering, ownSearch, reaches, childSearch, turnChild, searchOf, noSearch, searchAll}
+use Rattle.nearest.specs.Steps.{Sane}
+
+-- What `reaches` says of a row: it is a child's, the table has it, another octant may be entered, and it comes before the best.
+pub reaches-row : (os : List ℕ) (row d : ℕ) (s : Search) → reaches os row d s ≡ true
+    → (0 < row) × ((row < octantLimit current os) × ((s .entered < octantLimit current os) × (closer (s .best) d row ≡ true)))
+unfolding reaches
+reaches-row os row d s e =
+    let limit : ℕ = octantLimit current os in
+    let t = and-eq-true-iff (ltb 0 row && ltb row limit) (ltb (s .entered) limit && closer (s .best) d row) .0 e in
+    let r = and-eq-true-iff (ltb 0 row) (ltb row limit) .0 (t .0) in
+    let b = and-eq-true-iff (ltb (s .entered) limit) (closer (s .best) d row) .0 (t .1) in
+    (ltb-true _ _ (r .0), (ltb-true _ _ (r .1), (ltb-true _ _ (b .0), b .1)))
+
+module _ (budget limit : ℕ) where
+  -- One octant more may be entered below the limit.
+  pub entering-sane : (s : Search) → s .entered < limit → Sane budget limit s → Sane budget limit (entering s)
+  unfolding entering
+  entering-sane s h k = record { entered = h; visited = k .visited }
+
+  -- Turns that each stay within the bounds stay within them one after the other.
+  pub turns-sane : (F : ℕ → Search → Search) → ((k : ℕ) (u : Search) → Sane budget limit u → Sane budget limit (F k u))
+      → (n : ℕ) (s : Search) → Sane budget limit s → Sane budget limit (inTurn F n s)
+  unfolding inTurn
+  turns-sane F h zero s k = k
+  turns-sane F h (suc n) s k = h n (inTurn F n s) (turns-sane F h n s k)
+
+module _ (ws os : List ℕ) (c : Colour) where
+  abbrev budget : ℕ
+  budget = sampleBudget current ws
+
+  abbrev limit : ℕ
+  limit = octantLimit current os
+
+  -- An octant's own samples are measured within the budget, whatever the limit.
+  pub own-sane : (most row : ℕ) (s : Search) → Sane budget most s → Sane budget most (ownSearch ws os c row s)
+  unfolding ownSearch
+  own-sane most row s k =
+      record { entered = k .entered; visited = omega (arith, own-few ws os row (s .visited), k .visited) }
+
+  -- A child that is entered, or not, leaves the search within the bounds, where a search below it does.
+  pub child-sane : (below : ℕ → Colour → Search → Search) (side row : ℕ) (low : Colour)
+      → ((at : ℕ) (l : Colour) (u : Search) → u .entered < limit → Sane budget limit u → Sane budget limit (below at l u))
+      → (k : ℕ) (u : Search) → Sane budget limit u → Sane budget limit (childSearch os c below side row low k u)
+  unfolding childSearch
+  child-sane below side row low h k u sane = go (reaches os at d u) refl
+    where
+      at : ℕ
+      at = octantField current os row (Child k)
+
+      d : ℕ
+      d = distance c (closest c side (childLow side k low))
+
+      go : (r : Bool) → reaches os at d u ≡ r → Sane budget limit (childSearch os c below side row low k u)
+      go true e = rw (e, childSearch) (h at (childLow side k low) u (reaches-row os at d u e .1 .1 .0) sane)
+      go false e = rw (e, childSearch) sane
+
+  -- An octant that may be entered is searched within the bounds.
+  pub search-sane : (j row : ℕ) (low : Colour) (s : Search) → s .entered < limit → Sane budget limit s
+      → Sane budget limit (searchOf ws os c j row low s)
+  unfolding searchOf
+  search-sane zero row low s h k = own-sane limit row (entering s) (entering-sane budget limit s h k)
+  search-sane (suc j) row low s h k = go (endsAt (suc j) false (octantField current os row Count) (settingIn current ws Bucket)) refl (search-sane j)
+    where
+      go : (r : Bool) → endsAt (suc j) false (octantField current os row Count) (settingIn current ws Bucket) ≡ r
+          → ((at : ℕ) (l : Colour) (u : Search) → u .entered < limit → Sane budget limit u → Sane budget limit (searchOf ws os c j at l u))
+          → Sane budget limit (searchOf ws os c (suc j) row low s)
+      go true e ih = rw (e, searchOf) (own-sane limit row (entering s) (entering-sane budget limit s h k))
+      go false e ih =
+          rw (e, searchOf)
+          (turns-sane budget limit _ (λ i. child-sane (searchOf ws os c j) (2 ^ j) row low ih (turnChild c (2 ^ j) low i)) children (entering s)
+          (entering-sane budget limit s h k))
+
+  -- Before a search nothing is entered and nothing visited.
+  pub no-search-sane : (r : ℕ) → Sane budget limit (noSearch r)
+  unfolding noSearch
+  no-search-sane r = record { entered = omega arith; visited = omega arith }
+
+  -- The whole search stays within the bounds.
+  pub search-all-sane : (r : ℕ) → Sane budget limit (searchAll ws os c r)
+  unfolding searchAll noSearch
+  search-all-sane r = go (ltb 0 limit) refl
+    where
+      go : (t : Bool) → ltb 0 limit ≡ t → Sane budget limit (searchAll ws os c r)
+      go true e = rw (e, searchAll) (search-sane depths 0 black (noSearch r) (ltb-true _ _ e) (no-search-sane r))
+      go false e = rw (e, searchAll) (no-search-sane r)

@@ -1,0 +1,2 @@
+-- Laws and proofs of nearest.
+pub mod Laws

@@ -1,4 +1,0 @@
--- A pass over any words.
-pub mod Rows
-pub mod Turns
-pub mod Bounds

@@ -1,0 +1,16 @@
+-- `ask::ball`: what the entry ensures.
+use borrow.Author.Needs.{needs}
+use Rattle.query.proofs.ask.ball.Statement.{statement}
+use Rattle.query.proofs.ask.ball.Tie as tie
+
+ask-requires : tie.Need-ask-requires
+ask-requires c κs = search needs
+
+same-length : tie.Need-same-length
+same-length c = search needs
+
+returns : tie.Need-returns
+returns c = c .before .before .ask .ensures
+
+pub ball-spec : {M : Type 1} → statement M
+ball-spec = tie.close (tie.spec ask-requires same-length returns)

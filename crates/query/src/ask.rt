@@ -1,0 +1,67 @@
+// Ball, box and nearest, by the one entry that takes a query apart.
+use crate::answers::Reply;
+use crate::answers::of_best;
+use crate::answers::of_listed;
+use colour::PanelColour;
+use colour::Query;
+use colour::distance::square;
+use colour::panel::Asked;
+use colour::panel::asked_of;
+use listing::list::list;
+use nearest::visit::nearest as nearest_code;
+use words::layout::long_enough;
+ghost use mathlib.Core.List.{List};
+ghost use Prim.Native.Nat.{ℕ};
+ghost use Rattle.model.specs.Tables.{pair};
+ghost use Rattle.query.specs.Answers.{replyAnswer, AskMeets};
+
+// The query entry: an exported call. Questions 1 and 9, and then the listing or the search. A nearest query leaves the listing as it is.
+pub fn ask(samples: &[u32], octants: &[u32], query: Query, listing: &mut [u32]) -> Reply
+    ensures { λ r. ⌜ AskMeets query (now (listing .entry)) (pair (now (samples .entry)) (now (octants .entry))) (replyAnswer r (now (listing .exit))) ⌝ }
+{
+    if !long_enough(samples.len(), octants.len()) {
+        return Reply::TooShort;
+    }
+    match asked_of(query) {
+        Asked::List(region) => of_listed(list(samples, octants, region, listing)),
+        Asked::Nearest(centre, radius) => of_best(
+            nearest_code(samples, octants, centre, radius),
+            square(radius),
+        ),
+        Asked::Refused => Reply::NotQuery,
+    }
+}
+
+// A ball: an exported call.
+pub fn ball(
+    samples: &[u32],
+    octants: &[u32],
+    centre: PanelColour,
+    radius: f32,
+    listing: &mut [u32],
+) -> Reply
+    ensures { λ r. ⌜ AskMeets (Query.Ball centre radius) (now (listing .entry)) (pair (now (samples .entry)) (now (octants .entry))) (replyAnswer r (now (listing .exit))) ⌝ }
+{
+    ask(samples, octants, Query::Ball(centre, radius), listing)
+}
+
+// A box: an exported call.
+pub fn boxed(
+    samples: &[u32],
+    octants: &[u32],
+    low: PanelColour,
+    high: PanelColour,
+    listing: &mut [u32],
+) -> Reply
+    ensures { λ r. ⌜ AskMeets (Query.Box low high) (now (listing .entry)) (pair (now (samples .entry)) (now (octants .entry))) (replyAnswer r (now (listing .exit))) ⌝ }
+{
+    ask(samples, octants, Query::Box(low, high), listing)
+}
+
+// Nearest: an exported call. It uses no listing, so it promises its answer with any; the word that it lends the entry stays as it is.
+pub fn nearest(samples: &[u32], octants: &[u32], centre: PanelColour, radius: f32) -> Reply
+    ensures { λ r. ⌜ ((lent : List ℕ) → AskMeets (Query.Nearest centre radius) lent (pair (now (samples .entry)) (now (octants .entry))) (replyAnswer r lent)) ⌝ }
+{
+    let mut word = [0u32; 1];
+    ask(samples, octants, Query::Nearest(centre, radius), &mut word)
+}

@@ -1,0 +1,2 @@
+-- What every traversal of the tables reads of an octant, on any words.
+pub mod Own
