@@ -175,9 +175,10 @@ uint32_t hbx_remove(uint32_t *samples, size_t samples_len, uint32_t *octants, si
 uint32_t hbx_load(uint32_t *samples, size_t samples_len, uint32_t *octants, size_t octants_len,
                   const uint8_t *sheet, size_t sheet_len, uint32_t *taken);
 
-/* A query lists the tags of the samples in a region, in the order of the samples. A ball is a panel
- * colour, its centre, and a radius; a box is a low and a high panel colour. All floats are taken as
- * codes, by the rule of hbx_codes; a radius is good when 0 <= radius < 2.
+/* A query lists the tags of the samples in a region, in the order of the samples, or finds the
+ * nearest one. A ball is a panel colour, its centre, and a radius; a box is a low and a high panel
+ * colour. All floats are taken as codes, by the rule of hbx_codes; a radius is good when
+ * 0 <= radius < 2.
  *
  *     ball   samples with d^2 < r^2: d^2 is the sum of the three squared differences between the
  *            codes of sample and centre, r the radius as a code
@@ -198,7 +199,7 @@ uint32_t hbx_load(uint32_t *samples, size_t samples_len, uint32_t *octants, size
  * samples[0] says, and as there are rows. Nothing is written but the listing, up to *listed, and the
  * three reports. But the listing then means nothing: call hbx_check where in doubt.
  *
- * Both calls only read the tables. Each needs less than 8,000 bytes of stack.
+ * The three calls only read the tables. Each needs less than 8,000 bytes of stack.
  */
 
 /* Lists the samples in a ball.
@@ -226,6 +227,25 @@ uint32_t hbx_box(const uint32_t *samples, size_t samples_len, const uint32_t *oc
                  size_t octants_len, float low_red, float low_green, float low_blue,
                  float high_red, float high_green, float high_blue, uint32_t *listing,
                  size_t listing_len, uint32_t *listed, uint32_t *entered, uint32_t *measured);
+
+/* Finds the sample that is nearest to a centre, of those in the ball: the least d^2 < r^2, and the
+ * first in the order of the samples where several have it. There is no listing, and nothing is
+ * written but the three words that the last pointers point to.
+ *
+ * Where a sample is found, *found gets 1, *tag its tag and *distance its d^2. Where none is in the
+ * ball all three get 0. (Tag 0 at d^2 0 can be a find.)
+ *
+ * Nor does this query ask whether the tables are sound. On tables that are not, it ends as soon, by
+ * the same bounds on octants and samples, and what it finds means nothing.
+ *
+ * Returns 0 where it has looked. Otherwise the three words get 0, and the first of these that is so
+ * gives the number:
+ *    1  samples_len is under 2, or octants_len under 1
+ *    9  a channel of the centre is not good, or the radius is not
+ */
+uint32_t hbx_near(const uint32_t *samples, size_t samples_len, const uint32_t *octants,
+                  size_t octants_len, float red, float green, float blue, float radius,
+                  uint32_t *found, uint32_t *tag, uint64_t *distance);
 
 #ifdef __cplusplus
 }

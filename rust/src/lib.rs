@@ -28,8 +28,9 @@
 //!
 //! Every other word is 0. Tables are *sound* when they are exactly those of some set.
 //!
-//! A *query* lists the tags of the samples in a ball or in a box, in the order. It does not ask whether the
-//! tables are sound; on tables that are not, it is safe, and what it lists means nothing.
+//! A *query* lists the tags of the samples in a ball or in a box, in the order, or finds the sample nearest to
+//! a colour. It does not ask whether the tables are sound; on tables that are not, it is safe, and what it
+//! answers means nothing.
 //!
 //! A call that is refused gives `Err` with the number that says why; a refused load also says how many
 //! lines it took. The functions have no state and may be called from any thread.
@@ -54,6 +55,8 @@
 //! let mut listing = [0; 512];
 //! let near_blue = hubeltxa::ball(&samples, &octants, [0.0, 0.0, 0.99], 0.05, &mut listing)?;
 //! assert_eq!(near_blue.tags(&listing), [8]);
+//! let nearest = hubeltxa::nearest(&samples, &octants, [0.0, 0.0, 0.99], 0.05)?;
+//! assert_eq!(nearest.map(|found| found.tag), Some(8));
 //! # Ok::<(), u32>(())
 //! ```
 //!
@@ -218,6 +221,26 @@ pub mod raw {
             listed: *mut u32,
             entered: *mut u32,
             measured: *mut u32,
+        ) -> u32;
+
+        /// Finds the nearest sample; see [`nearest`](crate::nearest). A length is in words.
+        ///
+        /// # Safety
+        /// `samples` must be good for reads of `samples_len` words and `octants` of `octants_len`, and
+        /// neither may be null, not even where its length is 0. The last three pointers must be good for
+        /// writes. What is written may not overlap anything else.
+        pub fn hbx_near(
+            samples: *const u32,
+            samples_len: usize,
+            octants: *const u32,
+            octants_len: usize,
+            red: f32,
+            green: f32,
+            blue: f32,
+            radius: f32,
+            found: *mut u32,
+            tag: *mut u32,
+            distance: *mut u64,
         ) -> u32;
     }
 }
@@ -625,4 +648,55 @@ pub fn box_(
         )
     };
     unless_refused(number, Listed { listed, entered, measured })
+}
+
+/// The sample that is nearest to a centre: see [`nearest`].
+#[derive(Clone, Copy, Debug, PartialEq, Eq)]
+pub struct Nearest {
+    /// Its tag.
+    pub tag: u32,
+    /// Its d²: the sum of the three squared differences between its codes and the centre's.
+    pub distance: u64,
+}
+
+/// Finds the sample that is nearest to a centre, of those in the ball of this radius, or none where the ball
+/// holds none: the least d² < r², as [`ball`] has them, and the first in the order of the samples where several
+/// have it. The tables are only read. The call needs less than 8,000 bytes of stack.
+///
+/// The call does not ask whether the tables are sound, which would cost more than the query. On tables that
+/// are not it ends as well, but what it finds then means nothing: see [`check`].
+///
+/// # Errors
+/// The first of these that is so:
+/// - 1 where `samples` has fewer than 2 words or `octants` none;
+/// - 9 where a channel of the centre is not in `0 <= v < 1`, or the radius not in `0 <= v < 2`.
+///
+/// ```
+/// use hubeltxa::Nearest;
+///
+/// let (mut samples, mut octants) = ([0; 2 + 5 * 3], [0; 1 + 11 * 3]);
+/// hubeltxa::clear(&mut samples, &mut octants, 2)?;
+/// for (tag, grey) in [(7, 0), (8, 65_535), (9, 0)] {
+///     hubeltxa::add(&mut samples, &mut octants, tag, [grey; 3])?;
+/// }
+///
+/// let dark = [3.0 / 65_536.0; 3]; // code 3 in each channel
+/// let near_dark = hubeltxa::nearest(&samples, &octants, dark, 0.001)?;
+/// assert_eq!(near_dark, Some(Nearest { tag: 7, distance: 27 })); // 9 is as near, and after it
+/// hubeltxa::remove(&mut samples, &mut octants, 7)?;
+/// assert_eq!(hubeltxa::nearest(&samples, &octants, dark, 0.001)?, Some(Nearest { tag: 9, distance: 27 }));
+///
+/// assert_eq!(hubeltxa::nearest(&samples, &octants, [0.5; 3], 0.001)?, None);
+/// assert_eq!(hubeltxa::nearest(&samples, &octants, [0.5; 3], 2.0), Err(9));
+/// # Ok::<(), u32>(())
+/// ```
+pub fn nearest(samples: &[u32], octants: &[u32], centre: [f32; 3], radius: f32) -> Result<Option<Nearest>, u32> {
+    let [red, green, blue] = centre;
+    let ([mut found, mut tag], mut distance) = ([0; 2], 0);
+    let (s, o) = (samples.as_ptr(), octants.as_ptr());
+    // SAFETY: each pointer and length is a slice's; the last pointers are to three locals.
+    let number = unsafe {
+        raw::hbx_near(s, samples.len(), o, octants.len(), red, green, blue, radius, &mut found, &mut tag, &mut distance)
+    };
+    unless_refused(number, (found != 0).then_some(Nearest { tag, distance }))
 }
