@@ -6,9 +6,10 @@
 pub mod query;
 
 use crate::lent::Lent;
-use crate::sets::shown;
-use crate::straight_scan::{self, Bin, Call};
+use crate::sets::*;
+use crate::straight_scan::{self, Bin, Call, Gesture, Sample};
 use hubeltxa::{raw, RefusedLoad};
+use std::ops::Range;
 
 /// What a call answers: its number, and how many lines were taken (0 but of a load).
 pub type Answer = (u32, u32);
@@ -65,16 +66,25 @@ impl Tables {
     }
 }
 
-/// The C function, on guarded words and bytes, and on a word for the lines taken that holds something else and
-/// has neighbours. Gives the answer and both tables as left.
-fn library(tables: &Tables, call: &Call) -> (Answer, Vec<u32>, Vec<u32>) {
+/// Each of the sets with each bucket size, in tables just long enough and in longer ones.
+pub fn each(sets: Vec<Vec<Sample>>) -> impl Iterator<Item = Tables> {
+    let sized = |samples: Vec<Sample>| BUCKETS.map(|bucket| exact(&samples, bucket));
+    sets.into_iter().flat_map(sized).flat_map(|bin| [longer(&bin, 5 + 3, 11 + 7), bin]).map(Tables::of)
+}
+
+pub fn samples_of(tables: &Tables) -> Vec<Sample> {
+    tables.set.as_ref().unwrap().samples.clone()
+}
+
+/// The C function on these tables, with a sheet on guarded bytes, and a word for the lines taken that holds something
+/// else and has neighbours.
+pub fn through_c(samples: &mut [u32], octants: &mut [u32], call: &Call) -> Answer {
     const HELD: u32 = 0xA5A5_A5A5;
     let mut words = [HELD; 3];
     let mut text = Lent::new(if let Call::Load(sheet) = call { sheet } else { &[] });
-    let (mut samples, mut octants) = (Lent::new(&tables.samples), Lent::new(&tables.octants));
     let number = {
-        let (s, o, t) = (samples.within(), octants.within(), text.within());
-        let (s, s_len, o, o_len) = (s.as_mut_ptr(), s.len(), o.as_mut_ptr(), o.len());
+        let (s, s_len, o, o_len) = (samples.as_mut_ptr(), samples.len(), octants.as_mut_ptr(), octants.len());
+        let t = text.within();
         unsafe {
             match call {
                 Call::Clear(bucket) => raw::hbx_clear(s, s_len, o, o_len, *bucket),
@@ -92,50 +102,69 @@ fn library(tables: &Tables, call: &Call) -> (Answer, Vec<u32>, Vec<u32>) {
     } else {
         0
     };
-    let words = |lent: &mut Lent<u32>| lent.left().expect("words beside the tables are written").to_vec();
-    ((number, taken), words(&mut samples), words(&mut octants))
+    (number, taken)
 }
 
-fn wrapper(tables: &Tables, call: &Call) -> (Answer, Vec<u32>, Vec<u32>) {
-    let (mut s, mut o) = (tables.samples.clone(), tables.octants.clone());
+pub fn through_wrapper(s: &mut [u32], o: &mut [u32], call: &Call) -> Answer {
     let plain = |result: Result<(), u32>| (result.err().unwrap_or(0), 0);
-    let answer = match call {
-        Call::Clear(bucket) => plain(hubeltxa::clear(&mut s, &mut o, *bucket)),
-        Call::Add(tag, codes) => plain(hubeltxa::add(&mut s, &mut o, *tag, *codes)),
-        Call::Remove(tag) => plain(hubeltxa::remove(&mut s, &mut o, *tag)),
-        Call::Load(sheet) => match hubeltxa::load(&mut s, &mut o, sheet) {
+    match call {
+        Call::Clear(bucket) => plain(hubeltxa::clear(s, o, *bucket)),
+        Call::Add(tag, codes) => plain(hubeltxa::add(s, o, *tag, *codes)),
+        Call::Remove(tag) => plain(hubeltxa::remove(s, o, *tag)),
+        Call::Load(sheet) => match hubeltxa::load(s, o, sheet) {
             Ok(taken) => (0, taken),
             Err(RefusedLoad { number, taken }) => (number, taken),
         },
         Call::Pick(..) => unreachable!(),
-    };
-    (answer, s, o)
+    }
+}
+
+/// The C function, on guarded words. Gives the answer and both tables as left.
+fn library(tables: &Tables, call: &Call) -> (Answer, Vec<u32>, Vec<u32>) {
+    let (mut samples, mut octants) = (Lent::new(&tables.samples), Lent::new(&tables.octants));
+    let answer = through_c(samples.within(), octants.within(), call);
+    let words = |lent: &mut Lent<u32>| lent.left().expect("words beside the tables are written").to_vec();
+    (answer, words(&mut samples), words(&mut octants))
+}
+
+fn wrapper(tables: &Tables, call: &Call) -> (Answer, Vec<u32>, Vec<u32>) {
+    let (mut samples, mut octants) = (tables.samples.clone(), tables.octants.clone());
+    let answer = through_wrapper(&mut samples, &mut octants, call);
+    (answer, samples, octants)
 }
 
 /// The calls, and the numbers that each can give. Queries on tables that are not sound are counted apart.
-const CALLS: [(&str, &[usize]); 8] = [
+const CALLS: [(&str, &[usize]); 10] = [
     ("clear", &[0, 1, 3]),
     ("add", &[0, 1, 2, 4, 5, 6, 7]),
     ("remove", &[0, 1, 2, 8]),
     ("load", &[0, 1, 2, 5, 6, 7, 11, 12]),
+    ("nearest", &[0, 1, 9]),
     ("ball", &[0, 1, 9, 13]),
     ("box", &[0, 1, 9, 13]),
     ("ball, not sound", &[0, 9, 13]),
     ("box, not sound", &[0, 9, 13]),
+    ("nearest, not sound", &[0, 9]),
 ];
 
 /// The places of calls that are counted together.
-pub const CHANGES: std::ops::Range<usize> = 0..4;
-pub const QUERIES: std::ops::Range<usize> = 4..6;
-pub const QUERIES_NOT_SOUND: std::ops::Range<usize> = 6..8;
+pub const CHANGES: Range<usize> = 0..4;
+pub const ALL_SEVEN: Range<usize> = 0..7;
+pub const NEAREST: Range<usize> = 4..5;
+pub const LISTINGS: Range<usize> = 5..7;
+pub const LISTINGS_NOT_SOUND: Range<usize> = 7..9;
+pub const NEAREST_NOT_SOUND: Range<usize> = 9..10;
 
-fn place(call: &Call) -> usize {
+fn place(call: &Call, sound: bool) -> usize {
+    let listings = if sound { LISTINGS } else { LISTINGS_NOT_SOUND };
     match call {
         Call::Clear(_) => 0,
         Call::Add(..) => 1,
         Call::Remove(_) => 2,
         Call::Load(_) => 3,
-        Call::Pick(..) => unreachable!(),
+        Call::Pick(Gesture::Near { .. }, _) => if sound { NEAREST } else { NEAREST_NOT_SOUND }.start,
+        Call::Pick(Gesture::Ball { .. }, _) => listings.start,
+        Call::Pick(Gesture::Box { .. }, _) => listings.start + 1,
     }
 }
 
@@ -164,8 +193,13 @@ impl Compared {
             assert!(samples == tables.samples, "the {whose}'s sample table: {}", message(&before, call));
             assert!(octants == tables.octants, "the {whose}'s octant table: {}", message(&before, call));
         }
-        self.0[place(call)][answer.0 as usize] += 1;
+        self.count(call, true, answer.0);
         answer
+    }
+
+    /// Counts a call that was compared, on tables that are sound or too short, or on others.
+    pub fn count(&mut self, call: &Call, sound: bool, number: u32) {
+        self.0[place(call, sound)][number as usize] += 1;
     }
 
     /// The same, and the tables stay as they are for the next call.
@@ -185,16 +219,25 @@ impl Compared {
             let seen = numbers.iter().filter(|&&number| counts[number] > 0);
             let each: Vec<String> = seen.map(|&number| format!("{number}: {}", counts[number])).collect();
             if !each.is_empty() {
-                println!("  {name:<16}{:>9}   by number {}", counts.iter().sum::<usize>(), each.join(", "));
+                println!("  {name:<19}{:>9}   by number {}", counts.iter().sum::<usize>(), each.join(", "));
             }
         }
     }
 
     /// The same, where every number was seen of each of these calls that can give it.
-    pub fn print_all_seen(&self, what: &str, calls: std::ops::Range<usize>) {
+    pub fn print_all_seen(&self, what: &str, calls: impl IntoIterator<Item = usize>) {
+        self.print_all_seen_but(&[], what, calls);
+    }
+
+    /// The same, but for these numbers, which none of the calls gave.
+    pub fn print_all_seen_but(&self, never: &[usize], what: &str, calls: impl IntoIterator<Item = usize>) {
         self.print(what);
-        for ((name, numbers), counts) in CALLS.iter().zip(self.0).skip(calls.start).take(calls.len()) {
-            numbers.iter().for_each(|&number| assert!(counts[number] > 0, "{what}: no {name} gave {number}"));
+        for call in calls {
+            let (name, numbers) = CALLS[call];
+            for &number in numbers {
+                let seen = self.0[call][number] > 0;
+                assert!(seen != never.contains(&number), "{what}: {name} gave {number}: {seen}");
+            }
         }
     }
 }

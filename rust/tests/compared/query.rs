@@ -1,61 +1,77 @@
 //! Queries, compared with the straight scan one by one.
 
-use super::{Compared, Tables, QUERIES, QUERIES_NOT_SOUND};
+use super::{Compared, Tables};
 use crate::lent::Lent;
 use crate::sets::shown;
-use crate::straight_scan::{self, Answer, Bin, Gesture};
-use hubeltxa::{raw, Listed};
+use crate::straight_scan::{self, Answer, Bin, Call, Gesture};
+use hubeltxa::{raw, Listed, Nearest};
 
 /// A listing of so many words, no two equal.
 pub fn listing(length: usize) -> Vec<u32> {
     (0..length as u32).map(|i| 0xC0DE_0000 + i).collect()
 }
 
-/// An answer for a message: the reports, and the first words of the listing.
-fn brief(answer: &Answer) -> String {
-    let Answer { number, listed, entered, measured, listing, .. } = answer;
+/// An answer for a message: the reports, what is found, and the first words of the listing.
+pub fn brief(answer: &Answer) -> String {
+    let Answer { number, taken, listed, entered, measured, found, tag, d2, listing } = answer;
     let words = &listing[..listing.len().min(40)];
-    format!("number {number}, {listed} listed, {entered} entered, {measured} measured, listing {words:?}")
+    format!(
+        "number {number}, {taken} taken, {listed} listed, {entered} entered, {measured} measured, \
+         found {found}, tag {tag}, distance {d2}, listing {words:?}"
+    )
 }
 
-/// The C function, on guarded words, and on three words for the reports that hold something else and have
-/// neighbours. Both tables must be left as they were.
-fn library(tables: &Tables, query: &Gesture, lent: &[u32]) -> Answer {
+/// The C function on these tables, with a listing on guarded words, and words for what is reported that hold something
+/// else and have neighbours.
+pub fn through_c(samples: &[u32], octants: &[u32], query: &Gesture, lent: &[u32]) -> Answer {
     const HELD: u32 = 0xA5A5_A5A5;
-    let mut reports = [HELD; 7];
-    let (mut samples, mut octants) = (Lent::new(&tables.samples), Lent::new(&tables.octants));
+    const HELD_TWICE: u64 = 0xA5A5_A5A5_A5A5_A5A5;
+    let (mut words, mut distances) = ([HELD; 7], [HELD_TWICE; 3]);
     let mut listing = Lent::new(lent);
     let number = {
-        let [_, listed, _, entered, _, measured, _] = &mut reports;
-        let (s, o, l) = (samples.within(), octants.within(), listing.within());
-        let (s, s_len, o, o_len, l, l_len) = (s.as_ptr(), s.len(), o.as_ptr(), o.len(), l.as_mut_ptr(), l.len());
+        let [_, one, _, two, _, three, _] = &mut words;
+        let l = listing.within();
+        let (s, s_len, o, o_len) = (samples.as_ptr(), samples.len(), octants.as_ptr(), octants.len());
+        let (l, l_len) = (l.as_mut_ptr(), l.len());
         unsafe {
             match *query {
                 Gesture::Ball { centre: [r, g, b], radius } => {
-                    raw::hbx_ball(s, s_len, o, o_len, r, g, b, radius, l, l_len, listed, entered, measured)
+                    raw::hbx_ball(s, s_len, o, o_len, r, g, b, radius, l, l_len, one, two, three)
                 }
                 Gesture::Box { low: [r, g, b], high: [x, y, z] } => {
-                    raw::hbx_box(s, s_len, o, o_len, r, g, b, x, y, z, l, l_len, listed, entered, measured)
+                    raw::hbx_box(s, s_len, o, o_len, r, g, b, x, y, z, l, l_len, one, two, three)
                 }
-                Gesture::Near { .. } => unreachable!(),
+                Gesture::Near { centre: [r, g, b], radius } => {
+                    raw::hbx_near(s, s_len, o, o_len, r, g, b, radius, one, two, &mut distances[1])
+                }
             }
         }
     };
-    let [before, listed, between, entered, again, measured, after] = reports;
+    let [before, one, between, two, again, three, after] = words;
     assert_eq!([before, between, again, after], [HELD; 4], "a word beside the reports is written");
-    assert!(samples.left() == Some(&tables.samples), "the sample table or what is beside it is changed");
-    assert!(octants.left() == Some(&tables.octants), "the octant table or what is beside it is changed");
+    assert_eq!([distances[0], distances[2]], [HELD_TWICE; 2], "a word beside the distance is written");
     let listing = listing.left().expect("words beside the listing are written").to_vec();
-    Answer { number, listed, entered, measured, listing, ..Answer::default() }
+    if let Gesture::Near { .. } = query {
+        assert!(one <= 1, "found is {one}");
+        return Answer { number, found: one == 1, tag: two, d2: distances[1], listing, ..Answer::default() };
+    }
+    Answer { number, listed: one, entered: two, measured: three, listing, ..Answer::default() }
 }
 
-fn wrapper(tables: &Tables, query: &Gesture, lent: &[u32]) -> Answer {
+pub fn through_wrapper(samples: &[u32], octants: &[u32], query: &Gesture, lent: &[u32]) -> Answer {
     let mut listing = lent.to_vec();
-    let (samples, octants) = (&tables.samples, &tables.octants);
     let result = match *query {
         Gesture::Ball { centre, radius } => hubeltxa::ball(samples, octants, centre, radius, &mut listing),
         Gesture::Box { low, high } => hubeltxa::box_(samples, octants, low, high, &mut listing),
-        Gesture::Near { .. } => unreachable!(),
+        Gesture::Near { centre, radius } => {
+            return match hubeltxa::nearest(samples, octants, centre, radius) {
+                Ok(Some(Nearest { tag, distance })) => {
+                    Answer { found: true, tag, d2: distance, listing, ..Answer::default() }
+                }
+                Ok(None) => Answer { listing, ..Answer::default() },
+                Err(number) => Answer { number, listing, ..Answer::default() },
+            };
+        }
     };
     match result {
         Ok(given) => {
@@ -65,6 +81,15 @@ fn wrapper(tables: &Tables, query: &Gesture, lent: &[u32]) -> Answer {
         }
         Err(number) => Answer { number, listing, ..Answer::default() },
     }
+}
+
+/// The C function, on guarded words. Both tables must be left as they were.
+fn library(tables: &Tables, query: &Gesture, lent: &[u32]) -> Answer {
+    let (mut samples, mut octants) = (Lent::new(&tables.samples), Lent::new(&tables.octants));
+    let answer = through_c(samples.within(), octants.within(), query, lent);
+    assert!(samples.left() == Some(&tables.samples), "the sample table or what is beside it is changed");
+    assert!(octants.left() == Some(&tables.octants), "the octant table or what is beside it is changed");
+    answer
 }
 
 /// What the straight scan answers; nothing on tables that are not sound.
@@ -83,22 +108,34 @@ fn bounds(tables: &Tables) -> (usize, usize) {
     (lengths.sample_rows().min(samples[0] as usize), lengths.octant_rows().min(octants[0] as usize))
 }
 
+/// Whether what is found has the tag of a row, and all is 0 where nothing is.
+fn safe_find(tables: &Tables, given: &Answer) -> bool {
+    let mut tags = tables.samples.iter().skip(2).step_by(5);
+    if given.found {
+        tags.any(|&tag| tag == given.tag)
+    } else {
+        (given.tag, given.d2) == (0, 0)
+    }
+}
+
 /// What is promised on tables that are not sound: 9 exactly for a query that is not good, else 0 or 13, and 13 only for
-/// a listing that is shorter than the samples. Nothing written where a number is given, nothing past what is listed
-/// elsewhere, and no more listed, entered and measured than the counts say and there are rows.
+/// a listing that is shorter than the samples, of nearest never. Nothing written where a number is given, nothing past
+/// what is listed elsewhere, and no more listed, entered and measured than the counts say and there are rows.
 fn safe(tables: &Tables, query: &Gesture, lent: &[u32], given: &Answer) -> bool {
     let none = straight_scan::start(2, 1, 1).unwrap();
     let bad = none.pick(query, &[]).number == 9;
     let (samples, octants) = bounds(tables);
     let (listed, entered, measured) = (given.listed as usize, given.entered as usize, given.measured as usize);
+    let nearest = matches!(query, Gesture::Near { .. });
     match given.number {
+        0 if nearest => !bad && safe_find(tables, given),
         0 => {
             let within = listed <= lent.len() && listed <= samples && entered <= octants && measured <= samples;
             !bad && within && given.listing[listed..] == lent[listed..]
         }
         number => {
             let refused = Answer { number, listing: lent.to_vec(), ..Answer::default() };
-            let why = if bad { number == 9 } else { number == 13 && lent.len() < samples };
+            let why = if bad { number == 9 } else { number == 13 && !nearest && lent.len() < samples };
             why && *given == refused
         }
     }
@@ -126,20 +163,19 @@ impl Compared {
                 assert!(safe(tables, query, lent, &given), "the library's {} is not safe: {}", brief(&given), message())
             }
         }
-        let wrapped = wrapper(tables, query, lent);
+        let wrapped = through_wrapper(&tables.samples, &tables.octants, query, lent);
         assert!(wrapped == given, "the wrapper's {}; the library's {}: {}", brief(&wrapped), brief(&given), message());
-        let calls = if answer.is_some() { QUERIES } else { QUERIES_NOT_SOUND };
-        let place = calls.start + matches!(query, Gesture::Box { .. }) as usize;
-        self.0[place][given.number as usize] += 1;
+        self.count(&Call::Pick(*query, vec![]), answer.is_some(), given.number);
         given
     }
 
     /// A query with a listing that is longer than the samples; then, where it is good, with listings that are as long as
     /// the samples, and just as long as what is listed, and with shorter ones, which give 13. That all say the same is
-    /// asked on tables that are not sound too, where one pass must find what two find.
+    /// asked on tables that are not sound too, where one pass must find what two find. Nearest has no listing, and is
+    /// asked once.
     pub fn query_at_lengths(&mut self, tables: &Tables, query: &Gesture) -> Answer {
         let long = self.query(tables, query, &listing(tables.samples.len()));
-        if long.number != 0 {
+        if long.number != 0 || matches!(query, Gesture::Near { .. }) {
             return long;
         }
         let listed = long.listed as usize;

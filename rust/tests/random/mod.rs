@@ -19,3 +19,11 @@ pub fn below(n: usize, state: &mut u64) -> usize {
 pub fn any_of<T: Copy>(list: &[T], state: &mut u64) -> T {
     list[below(list.len(), state)]
 }
+
+/// All of them, or so many at random where there are more.
+pub fn some<T: Clone>(list: Vec<T>, most: usize, state: &mut u64) -> Vec<T> {
+    if list.len() <= most {
+        return list;
+    }
+    (0..most).map(|_| list[below(list.len(), state)].clone()).collect()
+}

@@ -8,6 +8,9 @@ use crate::straight_scan::{Bin, Codes, Sample};
 /// The bucket sizes of the tests.
 pub const BUCKETS: [u32; 4] = [1, 2, 16, 256];
 
+/// The most sample rows.
+pub const MOST: usize = 4_096;
+
 /// Two tables, for a message: the first words of each.
 pub fn shown(samples: &[u32], octants: &[u32]) -> String {
     let words = |table: &[u32]| format!("{:?} of {} words", &table[..table.len().min(60)], table.len());
