@@ -32,6 +32,7 @@ bench:
 	@target/bench/tables
 	@target/bench/changes
 	@target/bench/queries
+	@target/bench/nearest
 
 fmt:
 	@rt fmt

@@ -26,6 +26,8 @@ static inline void must(bool so, const char* what) {
   }
 }
 
+static inline u64 sq(long a) { return (u64)(a * a); }
+
 static inline double now() {
   return std::chrono::duration<double>(std::chrono::steady_clock::now().time_since_epoch()).count();
 }

@@ -1,7 +1,9 @@
-// Others that answer the same balls: nanoflann and FLANN where they are installed, and a scan of all samples.
-// They take floats, so a sample whose distance is all but the radius may fall on either side.
+// Others that answer the same balls and find the nearest sample: nanoflann and FLANN where they are installed, and a
+// scan of all samples. They take floats, so a sample whose distance is all but the radius may fall on either side,
+// and of two that are all but as far either may be found.
 #pragma once
 
+#include <algorithm>
 #include <utility>
 
 #include "build.hpp"
@@ -20,6 +22,9 @@
 #include <flann/algorithms/dist.h>
 #include <flann/algorithms/kdtree_single_index.h>
 #endif
+
+// The row where none is near enough.
+const u32 NONE = UINT32_MAX;
 
 #ifdef HAS_NANOFLANN
 struct Cloud {
@@ -48,6 +53,16 @@ struct Nanoflann {
     nanoflann::SearchParams how;
     how.sorted = false;
     return tree.radiusSearch(c, (float)r2, found, how);
+  }
+  // What is farther than the distance that is there is passed over: at first that is the radius.
+  u32 nearest(const P& x, u64 r2) const {
+    float c[3] = {(float)x.c[0], (float)x.c[1], (float)x.c[2]}, d2;
+    u32 row = NONE;
+    nanoflann::KNNResultSet<float, u32> one(1);
+    one.init(&row, &d2);
+    d2 = (float)r2;
+    tree.findNeighbors(one, c, nanoflann::SearchParams());
+    return row;
   }
   std::vector<u32> rows() const {
     std::vector<u32> rows;
@@ -79,6 +94,15 @@ struct Flann {
     flann::Matrix<float> query(c, 1, 3);
     return index.radiusSearch(query, found, distances, (float)r2, flann::SearchParams(-1, 0, false));
   }
+  // A search for one neighbour takes no radius.
+  u32 nearest(const P& x, u64 r2) const {
+    float c[3] = {(float)x.c[0], (float)x.c[1], (float)x.c[2]}, d2;
+    size_t row;
+    flann::Matrix<float> query(c, 1, 3), one_distance(&d2, 1, 1);
+    flann::Matrix<size_t> one(&row, 1, 1);
+    index.knnSearch(query, one, one_distance, 1, flann::SearchParams(-1, 0, false));
+    return d2 < (float)r2 ? (u32)row : NONE;
+  }
   std::vector<u32> rows() const { return {found[0].begin(), found[0].end()}; }
 };
 #endif
@@ -100,6 +124,25 @@ struct Scan {
       k += d < (float)r2;
     }
     return n = k;
+  }
+  // Block by block: only where one of a block is closer is it looked for.
+  u32 nearest(const P& c, u64 r2) const {
+    auto distance = [&](size_t i) {
+      float dx = x[i] - (int)c.c[0], dy = y[i] - (int)c.c[1], dz = z[i] - (int)c.c[2];
+      return dx * dx + dy * dy + dz * dz;
+    };
+    float best = (float)r2;
+    u32 row = NONE;
+    const size_t block = 64;
+    for (size_t from = 0; from < x.size(); from += block) {
+      const size_t to = std::min(from + block, x.size());
+      int closer = 0;
+      for (size_t i = from; i < to; i++) closer |= distance(i) < best;
+      if (!closer) continue;
+      for (size_t i = from; i < to; i++)
+        if (distance(i) < best) best = distance(i), row = i;
+    }
+    return row;
   }
   std::vector<u32> rows() const { return {found.begin(), found.begin() + n}; }
 };

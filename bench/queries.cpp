@@ -2,13 +2,10 @@
 // scan of all samples (peers.hpp), what tables that are not sound cost, and how much stack a query takes: `make bench`.
 // The ways take turns in one run, so that what else the machine does weighs on all of them. What each lists is
 // compared with the library's first.
-#include "hubeltxa.h"
-#include "measure.hpp"
-#include "peers.hpp"
-#include "visit.hpp"
+#include "queries.hpp"
 
-const int QUERIES = 4000, QUERY_ROUNDS = 40, QUERY_WARM_UP = 3;
-const u32 ROOT_LOW[3] = {0, 0, 0}, ROOT_SIDE = 65536;
+#include "hubeltxa.h"
+#include "visit.hpp"
 
 // What a query lists and reports. The listing is one that is lent again and again.
 struct Answer {
@@ -18,8 +15,6 @@ struct Answer {
 struct Box {
   P low, high;
 };
-
-static float channel(u32 code) { return code / 65536.0f; }
 
 static Answer ball(const Tables& t, const P& x, u32 r, std::vector<u32>& listing) {
   Answer a;
@@ -55,24 +50,6 @@ static bool same(const Answer& a, const Answer& b) {
 
 static bool same_words(const std::vector<u32>& a, const std::vector<u32>& b, u32 n) {
   return std::equal(a.begin(), a.begin() + n, b.begin());
-}
-
-static u64 distance(const P& a, const P& b) {
-  u64 d = 0;
-  for (int i = 0; i < 3; i++) d += sq((long)a.c[i] - (long)b.c[i]);
-  return d;
-}
-
-// Centres near samples.
-static std::vector<P> centres(const std::vector<P>& p) {
-  std::mt19937 g(9);
-  std::normal_distribution<double> nd(0, 400);
-  std::vector<P> q(QUERIES);
-  for (auto& x : q) {
-    auto& k = p[g() % p.size()];
-    for (int i = 0; i < 3; i++) x.c[i] = (u32)std::clamp(k.c[i] + nd(g), 0.0, 65535.0);
-  }
-  return q;
 }
 
 // A box around a centre, about as large as the ball.
@@ -113,16 +90,7 @@ struct Sum {
   }
 };
 
-// A way that asks every query, and one of another library.
-template <class Query, class F>
-static Way asking(const char* title, const std::vector<Query>& queries, volatile u64& sink, F ask) {
-  return {title, [&queries, &sink, ask] {
-            u64 n = 0;
-            for (auto& x : queries) n += ask(x);
-            sink = sink + n;
-          }};
-}
-
+// One of another library.
 template <class Peer>
 static Way peer_asking(const char* title, Peer& peer, const std::vector<P>& p, const std::vector<P>& q, u32 r,
                        const Tables& t, volatile u64& sink) {
@@ -134,29 +102,6 @@ static Way peer_asking(const char* title, Peer& peer, const std::vector<P>& p, c
   }
   return asking(title, q, sink, [&peer, r](const P& x) { return peer.ball(x, (u64)r * r); });
 }
-
-// The other libraries that are there, each with the samples in its own form.
-struct Peers {
-  Scan scan;
-#ifdef HAS_NANOFLANN
-  Nanoflann nanoflann;
-#endif
-#ifdef HAS_FLANN
-  Flann flann;
-#endif
-  explicit Peers(const std::vector<P>& p)
-      : scan(p)
-#ifdef HAS_NANOFLANN
-        ,
-        nanoflann(p)
-#endif
-#ifdef HAS_FLANN
-        ,
-        flann(p)
-#endif
-  {
-  }
-};
 
 static void measure_balls(const std::string& name, const std::vector<P>& p, const Tables& t, const std::vector<P>& q,
                           Peers& peers, u32 r) {
@@ -219,10 +164,6 @@ static void measure(const std::string& name, const std::vector<P>& p) {
   }
 }
 
-// A ball whose surface goes through many octants.
-const P MIDDLE = {{32000, 33000, 31000}};
-const u32 RADIUS = 30000;
-
 // Colours on that surface, in pairs that part at the last depth: with bucket size 1, of all sets that were tried the
 // one that the ball enters most octants of.
 static std::vector<P> on_surface() {
@@ -238,55 +179,13 @@ static std::vector<P> on_surface() {
   return p;
 }
 
-// Tables as long as a set can need, whose words point everywhere: next words and first rows to any sample row, child
-// words to any octant row, and counts as large as they get.
-const u32 OCTANT_ROWS = (OCTANT_WORDS - 1) / 11;
-static Tables pointing_anywhere() {
-  std::mt19937 g(11);
-  Tables t{std::vector<u32>(SAMPLE_WORDS), std::vector<u32>(OCTANT_WORDS), BUCKET};
-  t.s[0] = t.o[0] = UINT32_MAX;
-  t.s[1] = BUCKET;
-  for (u32 i = 0; i < SAMPLES; i++) {
-    u32* words = &t.s[2 + 5 * i];
-    for (int j = 0; j < 4; j++) words[j] = g() % 65536;
-    words[4] = g() % SAMPLES;
-  }
-  for (u32 i = 0; i < OCTANT_ROWS; i++) {
-    u32* words = &t.o[1 + 11 * (size_t)i];
-    for (int j = 0; j < 11; j++) words[j] = g() % (j < 2 ? SAMPLES : OCTANT_ROWS);
-  }
-  return t;
-}
-
-// The same with child words that lead on to the next row for each octant that the ball's surface goes through, as long
-// as there are rows: a ball enters them all, and measures samples in those that lead no further.
-static u32 lead_on(Tables& t, u32& rows, const P& low, u32 side) {
-  const u32 row = rows++, half = side / 2;
-  u32* words = &t.o[1 + 11 * (size_t)row];
-  words[2] = BUCKET;
-  for (u32 k = 0; k < 8; k++) {
-    words[3 + k] = 0;
-    P child = low;
-    u64 closest = 0, farthest = 0;
-    for (int i = 0; i < 3; i++) {
-      if (k >> i & 1) child.c[i] += half;
-      long from = (long)child.c[i] - MIDDLE.c[i], to = from + (long)half - 1;
-      closest += sq(from > 0 ? from : to < 0 ? to : 0);
-      farthest += sq(std::max(std::labs(from), std::labs(to)));
-    }
-    const u64 r2 = (u64)RADIUS * RADIUS;
-    if (half > 0 && rows < OCTANT_ROWS && closest < r2 && farthest >= r2) {
-      words[2] = UINT32_MAX;
-      words[3 + k] = lead_on(t, rows, child, half);
-    }
-  }
-  return row;
-}
-
+// To each octant that the ball's surface goes through: a ball enters them all, and measures samples in those that
+// lead no further.
 static Tables leading_on() {
   Tables t = pointing_anywhere();
+  const u64 r2 = (u64)RADIUS * RADIUS;
   u32 rows = 0;
-  lead_on(t, rows, {{0, 0, 0}}, ROOT_SIDE);
+  lead_on(t, rows, {{0, 0, 0}}, ROOT_SIDE, [=](u64 closest, u64 farthest) { return closest < r2 && farthest >= r2; });
   return t;
 }
 
@@ -334,12 +233,7 @@ static void stack(const char* name, const Tables& t) {
 int main() {
   printf("%d samples, bucket size %d; %d rounds of %d queries. Ratio: time over C++'s, and over nanoflann's.\n",
          SAMPLES, BUCKET, QUERY_ROUNDS, QUERIES);
-#ifndef HAS_NANOFLANN
-  printf("Without nanoflann: install libnanoflann-dev (older than 1.5) to have it measured.\n");
-#endif
-#ifndef HAS_FLANN
-  printf("Without FLANN: install libflann-dev and liblz4-dev to have it measured.\n");
-#endif
+  say_who_is_missing();
   printf("\n");
   measure("Scattered", scattered());
   measure("Clustered", clustered());

@@ -6,7 +6,7 @@
 #include <algorithm>
 #include <cstdlib>
 
-#include "build.hpp"
+#include "measure.hpp"
 
 struct Q {
   const Tables* t;
@@ -15,7 +15,6 @@ struct Q {
   u32* out;
   u32 n, entered, measured;
 };
-static inline u64 sq(long a) { return (u64)(a * a); }
 static void visit(Q& q, u32 row, const u32 lo[3], u32 side) {
   q.entered++;
   const u32* w = &q.t->o[1 + 11 * (size_t)row];
