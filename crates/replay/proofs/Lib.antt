@@ -1,0 +1,2 @@
+-- What the proofs of the entry and the driver cite.
+pub mod Laws

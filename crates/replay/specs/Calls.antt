@@ -1,0 +1,80 @@
+-- Calls as values (document 01, "The bin"): the call of the reference machine that a value means, the answer that is given, and the contract of the entry.
+use Prim.Native.Nat.{ℕ}
+use mathlib.Core.List.{List, []}
+use mathlib.Core.Option.{Option, none, some}
+use mathlib.Core.Path.{_≡_}
+use Rattle.colour.specs.declared.Query.{Query}
+use Rattle.colour.specs.declared.Query.the-variants as Q
+use Rattle.model.specs.Tables.{Tables}
+use Rattle.model.specs.Machine.{Clear, Load, Add, Remove, Ask, Answer}
+use Rattle.model.specs.Machine as M
+use Rattle.model.specs.Meets.{Meets}
+use Rattle.query.specs.Answers.{AskMeets}
+use Rattle.replay.specs.declared.calls.Call.{Call}
+use Rattle.replay.specs.declared.calls.Call.the-variants as C
+use Rattle.replay.specs.declared.calls.Given.{Given}
+
+-- The machine's call that a value means, with the sheet and the listing that are lent beside it.
+unfoldable pub meant : Call → List ℕ → List ℕ → M.Call
+meant (C.Clear bucket) sheet lent = Clear (record { bucket = bucket })
+meant C.Load sheet lent = Load sheet
+meant (C.Add s) sheet lent = Add s
+meant (C.Remove tag) sheet lent = Remove tag
+meant (C.Ball centre radius) sheet lent = Ask (Q.Ball centre radius) lent
+meant (C.Box low high) sheet lent = Ask (Q.Box low high) lent
+meant (C.Nearest centre radius) sheet lent = Ask (Q.Nearest centre radius) lent
+
+-- The query that a call asks, where it is one.
+unfoldable pub queryOf : Call → Option Query
+queryOf (C.Clear bucket) = none
+queryOf C.Load = none
+queryOf (C.Add s) = none
+queryOf (C.Remove tag) = none
+queryOf (C.Ball centre radius) = some (Q.Ball centre radius)
+queryOf (C.Box low high) = some (Q.Box low high)
+queryOf (C.Nearest centre radius) = some (Q.Nearest centre radius)
+
+-- The listing of an answer, from the words lent for it: all of them for a query, none for another call.
+unfoldable pub listingOf : Option Query → List ℕ → List ℕ
+listingOf none words = []
+listingOf (some q) words = words
+
+-- The answer that what was given says, with a listing as it is left.
+unfoldable pub answerOf : Given → List ℕ → Answer
+answerOf r listing =
+    record {
+      number = r .number;
+      taken = r .taken;
+      listed = r .listed;
+      entered = r .entered;
+      measured = r .measured;
+      found = r .found;
+      tag = r .tag;
+      distance = r .distance;
+      listing = listing;
+    }
+
+-- A call's answer, with the words lent for a listing as they are left.
+unfoldable pub givenAnswer : Call → Given → List ℕ → Answer
+givenAnswer c r left = answerOf r (listingOf (queryOf c) left)
+
+-- A call that is no query leaves the words lent for a listing as they were.
+unfoldable pub Kept : Option Query → List ℕ → List ℕ → Type 0
+Kept none lent left = left ≡ lent
+Kept (some q) lent left = Unit {0}
+
+-- Of a query: the tables are only read, and the answer is named and bounded on any words.
+pub record Queried (q : Query) (lent : List ℕ) (t : Tables) (a : Answer) (t′ : Tables) : Type 0 where
+  pub tables : t′ ≡ t
+  pub asked : AskMeets q lent t a
+
+-- So where a call is one.
+unfoldable pub Named : Option Query → List ℕ → Tables → Answer → Tables → Type 0
+Named none lent t a t′ = Unit {0}
+Named (some q) lent t a t′ = Queried q lent t a t′
+
+-- Call c on tables t, with a sheet and words for a listing lent beside it, gives r, and leaves those words as `left` and the tables as t′.
+pub record CallMeets (c : Call) (sheet lent : List ℕ) (t : Tables) (r : Given) (left : List ℕ) (t′ : Tables) : Type 0 where
+  pub meets : Meets (meant c sheet lent) t (givenAnswer c r left) t′
+  pub kept : Kept (queryOf c) lent left
+  pub named : Named (queryOf c) lent t (givenAnswer c r left) t′

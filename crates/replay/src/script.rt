@@ -1,0 +1,110 @@
+// A step of a script, which is 6 words and 6 floats: the call that it says, the part of the sheets that it names, and how much of the listings it is lent.
+use crate::calls::Call;
+use colour::Colour;
+use colour::PanelColour;
+use colour::Sample;
+ghost use Prim.Native.Nat.{_+_, _/_, min};
+ghost use mathlib.Core.Path.{_≡_};
+ghost use lib.ListN.{getD};
+ghost use Rattle.replay.specs.Calls.{queryOf};
+ghost use Rattle.replay.specs.Script.{noFloat, colourAt, sampleIn, callIn, sheetIn, wants};
+
+// The lesser of two numbers.
+fn least(a: usize, b: usize) -> usize
+    ensures { λ r. ⌜ r ≡ min a b ⌝ }
+{
+    if a < b { a } else { b }
+}
+
+// How many steps there are words, floats and answer words for.
+pub fn steps_of(words: usize, floats: usize, answers: usize) -> usize
+    ensures { λ r. ⌜ r ≡ min (words / 6) (min (floats / 6) (answers / 9)) ⌝ }
+{
+    least(words / 6, least(floats / 6, answers / 9))
+}
+
+// A word, 0 past the end.
+fn word_at(words: &[u32], k: usize) -> u32
+    ensures { λ r. ⌜ r ≡ getD (now (words .entry)) k 0 ⌝ }
+{
+    if k < words.len() { words[k] } else { 0 }
+}
+
+// A float, 0 past the end.
+fn float_at(floats: &[f32], k: usize) -> f32
+    ensures { λ r. ⌜ r ≡ getD (now (floats .entry)) k noFloat ⌝ }
+{
+    if k < floats.len() { floats[k] } else { 0.0 }
+}
+
+// The colour in three floats from float k on.
+fn colour_at(floats: &[f32], k: u32) -> PanelColour
+    ensures { λ r. ⌜ r ≡ colourAt (now (floats .entry)) k ⌝ }
+{
+    let at = k as usize;
+    PanelColour {
+        red: float_at(floats, at),
+        green: float_at(floats, at + 1),
+        blue: float_at(floats, at + 2),
+    }
+}
+
+// The sample in words 1 to 4.
+fn sample_in(words: &[u32]) -> Sample
+    ensures { λ r. ⌜ r ≡ sampleIn (now (words .entry)) ⌝ }
+{
+    Sample {
+        tag: word_at(words, 1),
+        colour: Colour {
+            red: word_at(words, 2),
+            green: word_at(words, 3),
+            blue: word_at(words, 4),
+        },
+    }
+}
+
+// The call that a step says.
+pub fn call_in(words: &[u32], floats: &[f32]) -> Call
+    ensures { λ r. ⌜ r ≡ callIn (now (words .entry)) (now (floats .entry)) ⌝ }
+{
+    let number = word_at(words, 1);
+    let sample = sample_in(words);
+    let low = colour_at(floats, 0);
+    let high = colour_at(floats, 3);
+    let radius = float_at(floats, 3);
+    match word_at(words, 0) {
+        0 => Call::Clear(number),
+        1 => Call::Load,
+        2 => Call::Add(sample),
+        3 => Call::Remove(number),
+        4 => Call::Ball(low, radius),
+        5 => Call::Box(low, high),
+        _ => Call::Nearest(low, radius),
+    }
+}
+
+// The part of the sheets that a step names, clipped to what is there.
+pub fn sheet_in<'a>(words: &[u32], sheets: &'a [u8]) -> &'a [u8]
+    ensures { λ r. ⌜ now r ≡ sheetIn (now (words .entry)) (now (sheets .entry)) ⌝ }
+{
+    let start = least(word_at(words, 1) as usize, sheets.len());
+    let size = least(word_at(words, 2) as usize, sheets.len() - start);
+    let end = start + size;
+    &sheets[start..end]
+}
+
+// How many words of what is left of the listings a step's call is lent: none if it is no query.
+pub fn lent_to(call: Call, words: &[u32], left: usize) -> usize
+    ensures { λ r. ⌜ r ≡ min (wants (queryOf call) (getD (now (words .entry)) 5 0)) left ⌝ }
+{
+    let most = least(word_at(words, 5) as usize, left);
+    match call {
+        Call::Clear(_) => 0,
+        Call::Load => 0,
+        Call::Add(_) => 0,
+        Call::Remove(_) => 0,
+        Call::Ball(_, _) => most,
+        Call::Box(_, _) => most,
+        Call::Nearest(_, _) => most,
+    }
+}
