@@ -18,79 +18,45 @@ mod straight_scan;
 mod asked;
 mod calls;
 mod compared;
+mod days;
 mod lent;
 mod lines;
 mod random;
 mod sets;
 
-use asked::*;
 use calls::*;
-use compared::query::{brief, listing};
+use compared::query::brief;
 use compared::{query, Compared, ALL_SEVEN};
+use days::*;
 use lent::Lent;
 use random::*;
 use sets::*;
-use straight_scan::{Answer, Bin, Call, Codes};
+use straight_scan::{Answer, Call, Codes};
 
-/// The lengths of the two tables, in words.
-type Lengths = (usize, usize);
-
-/// A pair of tables that the C calls are lent, one that the wrapper is lent, and what the straight scan has: its set
-/// from the first clear on, and the words that both pairs must hold.
+/// A pair of tables that the C calls are lent, one that the wrapper is lent, and what the straight scan has.
 struct Day {
     lent: (Lent<u32>, Lent<u32>),
-    wrapped: (Vec<u32>, Vec<u32>),
-    set: Result<Bin, Lengths>,
-    expected: (Vec<u32>, Vec<u32>),
+    wrapped: Words,
+    scanned: Scanned,
 }
 
 impl Day {
     /// The morning: any words.
     fn new(lengths: Lengths, state: &mut u64) -> Self {
-        let mut any = |length: usize| -> Vec<u32> { (0..length).map(|_| random(state) as u32).collect() };
-        let words = (any(lengths.0), any(lengths.1));
-        let lent = (Lent::new(&words.0), Lent::new(&words.1));
-        Day { lent, wrapped: words.clone(), set: Err(lengths), expected: words }
-    }
-
-    /// The set; none where no clear was accepted.
-    fn set(&self) -> Bin {
-        let none = Bin { samples: vec![], bucket: 1, sample_words: 2, octant_words: 1 };
-        self.set.clone().unwrap_or(none)
-    }
-
-    /// What the straight scan answers. A call that is no clear finds its set, or tables that are too short.
-    fn scan(&mut self, call: &Call) -> Answer {
-        let number = |number| Answer { number, ..Answer::default() };
-        let answer = match (&mut self.set, call) {
-            (Ok(set), _) => set.call(call),
-            (Err(lengths), Call::Clear(bucket)) => match straight_scan::start(lengths.0, lengths.1, *bucket) {
-                Ok(set) => {
-                    self.set = Ok(set);
-                    number(0)
-                }
-                Err(refused) => number(refused),
-            },
-            (Err(lengths), _) => {
-                assert!(straight_scan::start(lengths.0, lengths.1, 1).is_err());
-                let listing = if let Call::Pick(_, lent) = call { lent.clone() } else { vec![] };
-                Answer { listing, ..number(1) }
-            }
-        };
-        if let (Ok(set), false) = (&self.set, matches!(call, Call::Pick(..))) {
-            self.expected = set.tables();
-        }
-        answer
+        let scanned = Scanned::new(lengths, state);
+        let words = scanned.expected.clone();
+        Day { lent: (Lent::new(&words.0), Lent::new(&words.1)), wrapped: words, scanned }
     }
 
     /// The one comparison of a call in a day.
     fn call(&mut self, compared: &mut Compared, call: &Call) -> Answer {
-        let before = shown(&self.expected.0, &self.expected.1);
+        let before = shown(&self.scanned.expected.0, &self.scanned.expected.1);
         let message = || match call {
             Call::Load(sheet) => format!("load of \"{}\" on {before}", sheet[..sheet.len().min(400)].escape_ascii()),
             _ => format!("{call:?} on {before}"),
         };
-        let answer = self.scan(call);
+        let answer = self.scanned.call(call);
+        let expected = &self.scanned.expected;
         let changed = |(number, taken): compared::Answer| Answer { number, taken, ..Answer::default() };
 
         let (s, o) = (self.lent.0.within(), self.lent.1.within());
@@ -99,8 +65,8 @@ impl Day {
             _ => changed(compared::through_c(s, o, call)),
         };
         assert!(given == answer, "the library's {}; the scan's {}: {}", brief(&given), brief(&answer), message());
-        assert!(self.lent.0.left() == Some(&self.expected.0), "the library's sample table: {}", message());
-        assert!(self.lent.1.left() == Some(&self.expected.1), "the library's octant table: {}", message());
+        assert!(self.lent.0.left() == Some(&expected.0), "the library's sample table: {}", message());
+        assert!(self.lent.1.left() == Some(&expected.1), "the library's octant table: {}", message());
 
         let (s, o) = &mut self.wrapped;
         let given = match call {
@@ -108,26 +74,11 @@ impl Day {
             _ => changed(compared::through_wrapper(s, o, call)),
         };
         assert!(given == answer, "the wrapper's {}; the scan's {}: {}", brief(&given), brief(&answer), message());
-        assert!(self.wrapped == self.expected, "the wrapper's tables: {}", message());
+        assert!(&self.wrapped == expected, "the wrapper's tables: {}", message());
 
         compared.count(call, true, answer.number);
         answer
     }
-}
-
-/// A query of one of the three kinds, of sixteen one that is refused by 9, with a listing that holds all, or may not.
-fn any_pick(samples: &[u32], rows: usize, state: &mut u64) -> Call {
-    let query = match below(3, state) {
-        0 => any_ball(samples, state),
-        1 => any_box(samples, state),
-        _ => any_nearest(samples, state),
-    };
-    let length = match below(3, state) {
-        0 => below(rows + 2, state),
-        1 => below(4, state),
-        _ => rows + below(2, state),
-    };
-    Call::Pick(seldom_bad(query, state), listing(length))
 }
 
 /// A day of so many calls after the first clear. It goes through times when the set grows and when it gets smaller. Of
@@ -149,36 +100,8 @@ fn day(
     let mut growing = true;
     for _ in 0..calls {
         growing ^= below(40, state) == 0;
-        let set = day.set();
-        let call = match below(7, state) {
-            0..=2 => any_pick(&day.expected.0, set.samples.len(), state),
-            _ => any_call(&set, colours, most_lines, growing, state),
-        };
+        let call = any_of_seven(&day.scanned, colours, most_lines, growing, state);
         day.call(compared, &call);
-    }
-}
-
-/// Lengths of each kind, and how many lines a sheet has at most: rows of both that suffice, sample rows that run out,
-/// octant rows that run out, both of a set just so, lengths that hold one row or none, and lengths that are too short.
-fn any_lengths(kind: usize, colours: &[Codes], bucket: u32, state: &mut u64) -> (Lengths, usize) {
-    let words = |rows: usize, octants: usize, state: &mut u64| {
-        (2 + 5 * rows + below(5, state), 1 + 11 * octants + below(11, state))
-    };
-    match kind % 6 {
-        0 => (words(200, 17 * 200, state), 20),
-        1 => (words(1 + below(25, state), 500, state), 6),
-        2 => (words(100, 1 + below(40, state), state), 6),
-        3 => {
-            let samples = tagged((0..1 + below(60, state)).map(|_| any_of(colours, state)));
-            let bin = exact(&samples, bucket);
-            ((bin.sample_words, bin.octant_words), 8)
-        }
-        4 => ((2 + below(10, state), 1 + below(22, state)), 2),
-        _ => {
-            let long = (below(60, state), below(200, state));
-            let cut = [(below(2, state), long.1), (long.0, 0), (below(2, state), 0)];
-            (any_of(&cut, state), 3)
-        }
     }
 }
 
@@ -219,11 +142,7 @@ fn large_days(compared: &mut Compared, runs: usize, calls: usize, mut state: u64
         day.call(compared, &Call::Clear(256));
         assert_eq!(day.call(compared, &Call::Load(sheet(&samples))).number, 0);
         for _ in 0..calls {
-            let set = day.set();
-            let call = match below(7, state) {
-                0..=2 => any_pick(&day.expected.0, set.samples.len(), state),
-                _ => any_call(&set, &colours, 5, true, state),
-            };
+            let call = any_of_seven(&day.scanned, &colours, 5, true, state);
             if !matches!(call, Call::Clear(1..=256)) {
                 day.call(compared, &call);
             }
