@@ -2,12 +2,13 @@
 # make test         the whole test, from nothing; its last line is rt's verdict
 # make test-long    all 2^32 floats in each channel, and more tables, calls and queries, compared with the straight scan
 # make definitions  the definitions, compared with the straight scan by computing both
+# make rules        changed rules of the reference machine, each of which must break the proof of its call
 # make bench        how fast sheets are read and written, beside ordinary Rust, tables built, checked and changed, beside C++,
 #                   and queries asked, beside C++, nanoflann and FLANN
 # make fmt          format Rattle and Rust
 # make clean        remove what is built
 
-.PHONY: all test test-long definitions bench fmt clean
+.PHONY: all test test-long definitions rules bench fmt clean
 
 all:
 	@rt check
@@ -19,10 +20,14 @@ test:
 test-long:
 	@rt staticlib hubeltxa
 	@rt staticlib rebuild
+	@rt staticlib replay
 	@cd rust && cargo test --release --offline -- --ignored --show-output
 
 definitions:
 	@tools/definitions/run
+
+rules:
+	@tools/rules/run
 
 bench:
 	@rt staticlib hubeltxa
