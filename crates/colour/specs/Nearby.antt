@@ -8,7 +8,7 @@ use Rattle.colour.specs.Octant.{bitWeight}
 use Rattle.colour.specs.Mask.{bitIf}
 use Rattle.colour.specs.Steps.{closestSquare, halvesOf, ofChannel, childSum, Small}
 
--- The child, of side s, of the octant at low that a colour lies in or is closest to: in each channel the upper half where the code is past the middle.
+-- The child, of side s, of the octant at low that a colour lies in or is closest to: in each channel the upper half where the code is at the middle or past it.
 unfoldable pub closestChild : Colour → ℕ → Colour → ℕ
 closestChild c s low = sumOf (λ h. bitIf (leb (codeIn h low + s) (codeIn h c)) (bitWeight h))
 

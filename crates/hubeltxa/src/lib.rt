@@ -243,7 +243,7 @@ fn tell_near(reply: Reply, found: &mut u32, tag: &mut u32, distance: &mut u64) -
     near.number
 }
 
-// Finds the nearest sample within a radius, and says its tag and its squared distance. It lends no listing, and promises its answer with any.
+// Finds the nearest sample within a radius, and says its tag and its squared distance. It is lent no listing, and promises its answer with any.
 #[no_mangle]
 pub extern "C" fn hbx_near(
     samples: &[u32],

@@ -1,7 +1,7 @@
 -- What a query answers (document 01, "Picks" and "Questions"): the paper's number and values for each case of the enum, and the answer on any words at
 -- all, by the pass or the search over them.
 use Prim.Native.Nat.{ℕ, _*_, _≤_}
-use mathlib.Core.Bool.{true, false}
+use mathlib.Core.Bool.{Bool, true, false, not}
 use mathlib.Core.List.{List}
 use mathlib.Core.Path.{_≡_}
 use lib.ListN.{length}
@@ -34,6 +34,15 @@ replyAnswer R.TooShort lent = plain 1 lent
 replyAnswer R.NotQuery lent = plain 9 lent
 replyAnswer R.NoRoom lent = plain 13 lent
 
+-- Whether a reply is one of a query that lists, or else of a nearest query: what is listed is told apart from what is found, and from none found.
+unfoldable pub ofKind : Bool → Reply → Bool
+ofKind lists (R.Listed listed entered measured) = lists
+ofKind lists (R.Found tag distance) = not lists
+ofKind lists R.Nothing = not lists
+ofKind lists R.TooShort = true
+ofKind lists R.NotQuery = true
+ofKind lists R.NoRoom = lists
+
 -- The answer that a report says, with a listing as it is left.
 unfoldable pub reportAnswer : Report → List ℕ → Answer
 reportAnswer r lent =
@@ -59,16 +68,16 @@ rawAsked t A.Refused lent = plain 9 lent
 unfoldable pub rawAnswer : Tables → Query → List ℕ → Answer
 rawAnswer t q lent = elim (longEnough current t) [ true ↦ rawAsked t (askedOf q) lent | false ↦ plain 1 lent ]
 
--- What a query costs and needs on any words at all.
+-- What a query needs on any words at all, and what the pass and the search that name its answer cost.
 pub record Bounds (lent : List ℕ) (t : Tables) (a : Answer) : Type 0 where
   -- no more octants entered than the octant table counts and has
   pub entered : a .entered ≤ octantLimit current (t .octants)
   -- no more samples listed or measured than the sample table counts and has
   pub listed : a .listed ≤ sampleBudget current (t .samples)
   pub measured : a .measured ≤ sampleBudget current (t .samples)
-  -- nor visited, measured or taken whole, in a pass, whatever it looks for
+  -- nor visited in the pass, measured or taken whole, whatever it looks for
   pub visited : (R : Region) → passOf (t .samples) (t .octants) R .after .visited ≤ sampleBudget current (t .samples)
-  -- and so in a search
+  -- no more samples visited in the search, and no more octants entered
   pub searched : (c : Colour) (r : ℕ) → searchAll (t .samples) (t .octants) c r .visited ≤ sampleBudget current (t .samples)
   pub reached : (c : Colour) (r : ℕ) → searchAll (t .samples) (t .octants) c r .entered ≤ octantLimit current (t .octants)
   -- a listing that long is never too short

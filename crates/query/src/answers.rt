@@ -1,13 +1,13 @@
 // What a query answers, and the paper's numbers and values for it.
 use listing::list::Listed;
 use nearest::best::Best;
-ghost use mathlib.Core.Bool.{false};
+ghost use mathlib.Core.Bool.{true, false};
 ghost use mathlib.Core.List.{List};
 ghost use mathlib.Core.Path.{_≡_};
 ghost use Prim.Native.Nat.{ℕ};
 ghost use Rattle.listing.specs.Answers.{listedAnswer};
 ghost use Rattle.nearest.specs.Best.{bestAnswer};
-ghost use Rattle.query.specs.Answers.{replyAnswer, reportAnswer};
+ghost use Rattle.query.specs.Answers.{replyAnswer, ofKind, reportAnswer};
 
 // What became of a query: all were listed, so many, with octants entered and samples measured; one was found, its tag and d², or none; or a refusal
 // by 1, 9 or 13.
@@ -78,7 +78,8 @@ pub fn report_of(reply: Reply) -> Report
 
 // A listing's answer.
 pub fn of_listed(listed: Listed) -> Reply
-    ensures { λ r. ⌜ ((lent : List ℕ) → replyAnswer r lent ≡ listedAnswer listed lent) ⌝ }
+    ensures is { λ r. ⌜ ((lent : List ℕ) → replyAnswer r lent ≡ listedAnswer listed lent) ⌝ }
+    ensures kind { λ r. ⌜ ofKind true r ≡ true ⌝ }
 {
     match listed {
         Listed::All(listed, entered, measured) => Reply::Listed(listed, entered, measured),
@@ -88,10 +89,11 @@ pub fn of_listed(listed: Listed) -> Reply
 
 // The answer of a search that began with a limit.
 pub fn of_best(best: Best, limit: u64) -> Reply
-    ensures { λ r. ⌜ ((lent : List ℕ) → replyAnswer r lent ≡ bestAnswer limit best lent) ⌝ }
+    ensures is { λ r. ⌜ ((lent : List ℕ) → replyAnswer r lent ≡ bestAnswer limit best lent) ⌝ }
+    ensures kind { λ r. ⌜ ofKind false r ≡ true ⌝ }
 {
-    if best.distance < limit {
-        return Reply::Found(best.tag, best.distance);
+    if limit <= best.distance {
+        return Reply::Nothing;
     }
-    Reply::Nothing
+    Reply::Found(best.tag, best.distance)
 }

@@ -10,14 +10,18 @@ use colour::panel::asked_of;
 use listing::list::list;
 use nearest::visit::nearest as nearest_code;
 use words::layout::long_enough;
+ghost use mathlib.Core.Bool.{true, false};
 ghost use mathlib.Core.List.{List};
+ghost use mathlib.Core.Path.{_≡_};
 ghost use Prim.Native.Nat.{ℕ};
 ghost use Rattle.model.specs.Tables.{pair};
-ghost use Rattle.query.specs.Answers.{replyAnswer, AskMeets};
+ghost use Rattle.model.specs.Meets.{lists};
+ghost use Rattle.query.specs.Answers.{replyAnswer, ofKind, AskMeets};
 
 // The query entry: an exported call. Questions 1 and 9, and then the listing or the search. A nearest query leaves the listing as it is.
 pub fn ask(samples: &[u32], octants: &[u32], query: Query, listing: &mut [u32]) -> Reply
-    ensures { λ r. ⌜ AskMeets query (now (listing .entry)) (pair (now (samples .entry)) (now (octants .entry))) (replyAnswer r (now (listing .exit))) ⌝ }
+    ensures meets { λ r. ⌜ AskMeets query (now (listing .entry)) (pair (now (samples .entry)) (now (octants .entry))) (replyAnswer r (now (listing .exit))) ⌝ }
+    ensures kind { λ r. ⌜ ofKind (lists query) r ≡ true ⌝ }
 {
     if !long_enough(samples.len(), octants.len()) {
         return Reply::TooShort;
@@ -40,7 +44,8 @@ pub fn ball(
     radius: f32,
     listing: &mut [u32],
 ) -> Reply
-    ensures { λ r. ⌜ AskMeets (Query.Ball centre radius) (now (listing .entry)) (pair (now (samples .entry)) (now (octants .entry))) (replyAnswer r (now (listing .exit))) ⌝ }
+    ensures meets { λ r. ⌜ AskMeets (Query.Ball centre radius) (now (listing .entry)) (pair (now (samples .entry)) (now (octants .entry))) (replyAnswer r (now (listing .exit))) ⌝ }
+    ensures kind { λ r. ⌜ ofKind true r ≡ true ⌝ }
 {
     ask(samples, octants, Query::Ball(centre, radius), listing)
 }
@@ -53,14 +58,16 @@ pub fn boxed(
     high: PanelColour,
     listing: &mut [u32],
 ) -> Reply
-    ensures { λ r. ⌜ AskMeets (Query.Box low high) (now (listing .entry)) (pair (now (samples .entry)) (now (octants .entry))) (replyAnswer r (now (listing .exit))) ⌝ }
+    ensures meets { λ r. ⌜ AskMeets (Query.Box low high) (now (listing .entry)) (pair (now (samples .entry)) (now (octants .entry))) (replyAnswer r (now (listing .exit))) ⌝ }
+    ensures kind { λ r. ⌜ ofKind true r ≡ true ⌝ }
 {
     ask(samples, octants, Query::Box(low, high), listing)
 }
 
 // Nearest: an exported call. It uses no listing, so it promises its answer with any; the word that it lends the entry stays as it is.
 pub fn nearest(samples: &[u32], octants: &[u32], centre: PanelColour, radius: f32) -> Reply
-    ensures { λ r. ⌜ ((lent : List ℕ) → AskMeets (Query.Nearest centre radius) lent (pair (now (samples .entry)) (now (octants .entry))) (replyAnswer r lent)) ⌝ }
+    ensures meets { λ r. ⌜ ((lent : List ℕ) → AskMeets (Query.Nearest centre radius) lent (pair (now (samples .entry)) (now (octants .entry))) (replyAnswer r lent)) ⌝ }
+    ensures kind { λ r. ⌜ ofKind false r ≡ true ⌝ }
 {
     let mut word = [0u32; 1];
     ask(samples, octants, Query::Nearest(centre, radius), &mut word)

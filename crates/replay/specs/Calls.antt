@@ -68,7 +68,7 @@ pub record Queried (q : Query) (lent : List ℕ) (t : Tables) (a : Answer) (t′
   pub tables : t′ ≡ t
   pub asked : AskMeets q lent t a
 
--- So where a call is one.
+-- The same of a call: of one that is no query nothing is said here.
 unfoldable pub Named : Option Query → List ℕ → Tables → Answer → Tables → Type 0
 Named none lent t a t′ = Unit {0}
 Named (some q) lent t a t′ = Queried q lent t a t′

@@ -57,7 +57,7 @@ wordsOf e = answerWords (e .answer)
 abbrev pub listingIn : Event → List ℕ
 listingIn e = e .answer .listing
 
--- The first n steps of a script on tables t: events of which each is known by its call's contract alone; so on any words at all, each query's answer.
+-- The first n steps of a script on tables t: events of which each is known by its call's contract alone. Each query's answer is named, on any words.
 pub record Ran (s : Script) (answers : List ℕ) (t : Tables) (n : ℕ) (listings′ answers′ : List ℕ) (t′ : Tables) : Type 0 where
   pub events : List Event
   pub calls : map callOf events ≡ scriptCalls s n

@@ -27,7 +27,7 @@ colourAt floats k = record { red = getD floats k noFloat; green = getD floats (k
 unfoldable pub sampleIn : List ℕ → Sample
 sampleIn words = record { tag = getD words 1 0; colour = record { red = getD words 2 0; green = getD words 3 0; blue = getD words 4 0 } }
 
--- The calls that word 0 picks from, by their place in this list.
+-- The calls that word 0 chooses from, by their place in this list.
 unfoldable pub firstCalls : List ℕ → List Float → List Call
 firstCalls words floats =
     C.Clear (getD words 1 0)

@@ -19,7 +19,7 @@ returns : tie.Need-returns
 unfolding lists
 returns c =
     let a = c .before .before .before .before .before .before .ball in
-    listed-told _ _ _ refl (a .result) _ _ _ _ _ (c .tell .ensures) (a .ensures)
+    listed-told _ _ _ refl (a .result) _ _ _ _ _ (c .tell .ensures) (a .ensures .0)
 
 pub hbx-ball-spec : {M : Type 1} → statement M
 hbx-ball-spec = tie.close (tie.spec ball-requires tell-requires same-length returns)

@@ -19,7 +19,7 @@ returns : tie.Need-returns
 unfolding lists
 returns c =
     let a = c .before .before .before .before .before .before .boxed in
-    listed-told _ _ _ refl (a .result) _ _ _ _ _ (c .tell .ensures) (a .ensures)
+    listed-told _ _ _ refl (a .result) _ _ _ _ _ (c .tell .ensures) (a .ensures .0)
 
 pub hbx-box-spec : {M : Type 1} → statement M
 hbx-box-spec = tie.close (tie.spec boxed-requires tell-requires same-length returns)

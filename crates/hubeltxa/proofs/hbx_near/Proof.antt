@@ -16,7 +16,7 @@ returns : tie.Need-returns
 unfolding lists
 returns c =
     let a = c .before .before .before .before .nearest in
-    (near-told _ _ refl (a .result) _ _ _ _ (c .tell-near .ensures) (a .ensures), c .tell-near .ensures .bit)
+    (near-told _ _ refl (a .result) _ _ _ _ (c .tell-near .ensures) (a .ensures .0), c .tell-near .ensures .bit)
 
 pub hbx-near-spec : {M : Type 1} → statement M
 hbx-near-spec = tie.close (tie.spec nearest-requires tell-near-requires returns)

@@ -3,6 +3,7 @@ use Prim.Native.Nat.{ℕ}
 use mathlib.Core.Bool.{Bool, true, false}
 use mathlib.Core.List.{List}
 use mathlib.Core.Path.{_≡_, refl, sym, ap, _∙_, subst}
+use native.Mathlib.Omega.{arith}
 use lib.Dec.{ltb}
 use Rattle.colour.specs.declared.Colour.{Colour}
 use Rattle.colour.specs.declared.PanelColour.{PanelColour}
@@ -21,11 +22,12 @@ use Rattle.model.specs.Layout.{current}
 use Rattle.model.specs.Tables.{Tables}
 use Rattle.model.specs.Machine.{Answer, plain, nearestAnswer, listAnswer}
 use Rattle.model.specs.Sound.{longEnough}
+use Rattle.model.specs.Meets.{lists}
 use Rattle.nearest.specs.declared.best.Best.{Best}
 use Rattle.nearest.specs.Best.{bestAnswer}
 use Rattle.query.specs.declared.answers.Reply.{Reply}
 use Rattle.query.specs.declared.answers.Reply.the-variants as Reply
-use Rattle.query.specs.Answers.{replyAnswer, rawAsked, rawAnswer, AskMeets}
+use Rattle.query.specs.Answers.{replyAnswer, ofKind, rawAsked, rawAnswer, AskMeets}
 use Rattle.query.proofs.Laws.Answered.{raw-short, raw-asked, ask-meets}
 
 -- What is asked lies in range.
@@ -49,6 +51,37 @@ module _ (q : Query) (l : List ℕ) (t : Tables) where
   -- What is asked, and what is answered to it.
   pub meets-asked : longEnough current t ≡ true → {x : Asked} {a : Answer} → askedOf q ≡ x → a ≡ rawAsked t x l → AskMeets q l t a
   meets-asked long e d = ask-meets q l t _ (d ∙ sym (raw-asked q l t long ∙ ap (λ (a : Asked). rawAsked t a l) e))
+
+-- A query that asks for a region lists, and one that asks for the nearest does not.
+good-lists : (q : Query) (g : Region) → inCodes q ≡ A.List g → lists q ≡ true
+unfolding inCodes lists
+good-lists (Q.Ball c r) g e = refl
+good-lists (Q.Box lo hi) g e = refl
+good-lists (Q.Nearest c r) g e = let z : _≡_ {A = ℕ} 0 1 = cc in absurd (omega arith)
+
+good-finds : (q : Query) (c : Colour) (r : ℕ) → inCodes q ≡ A.Nearest c r → lists q ≡ false
+unfolding inCodes lists
+good-finds (Q.Ball c r) d n e = let z : _≡_ {A = ℕ} 0 1 = cc in absurd (omega arith)
+good-finds (Q.Box lo hi) d n e = let z : _≡_ {A = ℕ} 0 1 = cc in absurd (omega arith)
+good-finds (Q.Nearest c r) d n e = refl
+
+pub asked-lists : (q : Query) (g : Region) → askedOf q ≡ A.List g → lists q ≡ true
+asked-lists q g e = go (queryGood q) refl
+  where
+    go : (b : Bool) → queryGood q ≡ b → lists q ≡ true
+    go true h = good-lists q g (sym (asked-yes q h) ∙ e)
+    go false h = let z : _≡_ {A = ℕ} 0 1 = cc (asked-no q h, e) in absurd (omega arith)
+
+pub asked-finds : (q : Query) (c : Colour) (r : ℕ) → askedOf q ≡ A.Nearest c r → lists q ≡ false
+asked-finds q c r e = go (queryGood q) refl
+  where
+    go : (b : Bool) → queryGood q ≡ b → lists q ≡ false
+    go true h = good-finds q c r (sym (asked-yes q h) ∙ e)
+    go false h = let z : _≡_ {A = ℕ} 0 1 = cc (asked-no q h, e) in absurd (omega arith)
+
+-- So a reply of that kind is one of the query's kind.
+pub of-kind : {k l : Bool} (r : Reply) → k ≡ l → ofKind l r ≡ true → ofKind k r ≡ true
+of-kind r e h = ap (λ (x : Bool). ofKind x r) e ∙ h
 
 -- An answer with another listing.
 unfoldable relisted : List ℕ → Answer → Answer

@@ -17,7 +17,7 @@ use Rattle.replay.specs.Script.{noFloat, colourAt, firstCalls, callIn, s
 use Rattle.replay.specs.Replayed.{NamedAnswer, Stepped}
 use Rattle.replay.proofs.Laws.Parts.{take-clipped}
 
--- The call that word 0 picks.
+-- The call that word 0 chooses.
 module _ (words : List ℕ) (floats : List Float) where
   pub says : (k : ℕ) → getD words 0 0 ≡ k → callIn words floats ≡ getD (firstCalls words floats) k (C.Nearest (colourAt floats 0) (getD floats 3 noFloat))
   unfolding callIn

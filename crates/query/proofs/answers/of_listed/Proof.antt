@@ -1,8 +1,8 @@
 -- `answers::of_listed`: case by case.
-use mathlib.Core.Path.{sym, ap}
+use mathlib.Core.Path.{refl, sym, ap}
 use Rattle.listing.specs.declared.list.Listed.{Listed}
 use Rattle.listing.specs.Answers.{listedAnswer}
-use Rattle.query.specs.Answers.{replyAnswer}
+use Rattle.query.specs.Answers.{replyAnswer, ofKind}
 use borrow.Author.Needs.{needs}
 use Rattle.query.proofs.answers.of_listed.Statement.{statement}
 use Rattle.query.proofs.answers.of_listed.Tie as tie
@@ -14,12 +14,12 @@ enum-told : tie.Need-enum-told
 enum-told c = search needs
 
 returns : tie.Need-returns
-unfolding replyAnswer listedAnswer
-returns c = λ lent. sym (ap (λ (x : Listed). listedAnswer x lent) (c .before .listed .given .1))
+unfolding replyAnswer ofKind listedAnswer
+returns c = (λ lent. sym (ap (λ (x : Listed). listedAnswer x lent) (c .before .listed .given .1)), refl)
 
 returns-2 : tie.Need-returns-2
-unfolding replyAnswer listedAnswer
-returns-2 c = λ lent. sym (ap (λ (x : Listed). listedAnswer x lent) (c .enum-told .given .1))
+unfolding replyAnswer ofKind listedAnswer
+returns-2 c = (λ lent. sym (ap (λ (x : Listed). listedAnswer x lent) (c .enum-told .given .1)), refl)
 
 pub of-listed-spec : {M : Type 1} → statement M
 of-listed-spec = tie.close (tie.spec enum-known-listed enum-told returns returns-2)

@@ -6,8 +6,8 @@ use Rattle.model.specs.Sound.{longEnough}
 use Rattle.octree.proofs.Laws.Tables.Check.{both-long}
 use Rattle.nearest.specs.declared.best.Best.{Best}
 use Rattle.nearest.specs.Best.{bestAnswer}
-use Rattle.query.specs.Answers.{replyAnswer, rawAsked}
-use Rattle.query.proofs.Laws.Asked.{region-fair, centre-fair, meets-short, meets-asked}
+use Rattle.query.specs.Answers.{replyAnswer, ofKind, rawAsked}
+use Rattle.query.proofs.Laws.Asked.{region-fair, centre-fair, asked-lists, asked-finds, of-kind, meets-short, meets-asked}
 use borrow.Author.Needs.{needs}
 use Rattle.query.proofs.ask.ask.Statement.{statement}
 use Rattle.query.proofs.ask.ask.Tie as tie
@@ -16,8 +16,8 @@ long-enough-requires : tie.Need-long-enough-requires
 long-enough-requires c κs = search needs
 
 returns : tie.Need-returns
-unfolding longEnough
-returns c = meets-short _ _ _ (sym (c .before .long-enough .ensures) ∙ not-true _ (c .if1 .taken))
+unfolding longEnough ofKind
+returns c = (meets-short _ _ _ (sym (c .before .long-enough .ensures) ∙ not-true _ (c .if1 .taken)), refl)
 
 asked-of-requires : tie.Need-asked-of-requires
 asked-of-requires c κs = search needs
@@ -60,20 +60,30 @@ same-length c = search needs
 returns-2 : tie.Need-returns-2
 unfolding longEnough rawAsked
 returns-2 c =
-    meets-asked _ _ _ (sym (c .before .before .before .before .before .before .before .before .before .before .long-enough .ensures) ∙ not-false _ (c .before .before .before .before .before .before .before .before .before .if1 .left)) (sym (c .before .before .before .before .before .before .before .before .asked-of .ensures .1) ∙ c .before .before .before .before .before .before .region .given .1) (c .of-listed .ensures _ ∙ c .before .before .before .list .ensures)
+    let a = c .before .before .before .before .before .before .before .before in
+    let is = sym (a .asked-of .ensures .1) ∙ c .before .before .before .before .before .before .region .given .1 in (
+      meets-asked _ _ _ (sym (a .before .before .long-enough .ensures) ∙ not-false _ (a .before .if1 .left)) is (c .of-listed .ensures .0 _ ∙ c .before .before .before .list .ensures),
+      of-kind (c .of-listed .result) (asked-lists _ _ is) (c .of-listed .ensures .1),
+    )
 
 returns-3 : tie.Need-returns-3
 unfolding longEnough rawAsked
 returns-3 c =
     let l = c .before .before .before .before .before .before .before .before .before .before .before .before .args .listing .now in
     let a = c .before .before .before .before .before .before in
-    meets-asked _ _ _ (sym (a .before .before .long-enough .ensures) ∙ not-false _ (a .before .if1 .left)) (sym (a .asked-of .ensures .1) ∙ c .before .before .before .before .centre .given .1)
-    (c .of-best .ensures l ∙ ap₂ (λ (n : ℕ) (x : Best). bestAnswer n x l) (c .before .square .ensures) (c .before .before .nearest .ensures))
+    let is = sym (a .asked-of .ensures .1) ∙ c .before .before .before .before .centre .given .1 in (
+      meets-asked _ _ _ (sym (a .before .before .long-enough .ensures) ∙ not-false _ (a .before .if1 .left)) is
+          (c .of-best .ensures .0 l ∙ ap₂ (λ (n : ℕ) (x : Best). bestAnswer n x l) (c .before .square .ensures) (c .before .before .nearest .ensures)),
+      of-kind (c .of-best .result) (asked-finds _ _ _ is) (c .of-best .ensures .1),
+    )
 
 returns-4 : tie.Need-returns-4
-unfolding longEnough rawAsked replyAnswer
+unfolding longEnough rawAsked replyAnswer ofKind
 returns-4 c =
-    meets-asked _ _ _ (sym (c .before .before .before .before .long-enough .ensures) ∙ not-false _ (c .before .before .before .if1 .left)) (sym (c .before .before .asked-of .ensures .1) ∙ c .enum-told .given .1) refl
+    let a = c .before .before in (
+      meets-asked _ _ _ (sym (a .before .before .long-enough .ensures) ∙ not-false _ (a .before .if1 .left)) (sym (a .asked-of .ensures .1) ∙ c .enum-told .given .1) refl,
+      refl,
+    )
 
 pub ask-spec : {M : Type 1} → statement M
 ask-spec =

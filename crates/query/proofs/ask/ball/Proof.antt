@@ -1,5 +1,6 @@
 -- `ask::ball`: what the entry ensures.
 use borrow.Author.Needs.{needs}
+use Rattle.model.specs.Meets.{lists}
 use Rattle.query.proofs.ask.ball.Statement.{statement}
 use Rattle.query.proofs.ask.ball.Tie as tie
 
@@ -10,6 +11,7 @@ same-length : tie.Need-same-length
 same-length c = search needs
 
 returns : tie.Need-returns
+unfolding lists
 returns c = c .before .before .ask .ensures
 
 pub ball-spec : {M : Type 1} → statement M

@@ -1,5 +1,6 @@
 -- `ask::boxed`: what the entry ensures.
 use borrow.Author.Needs.{needs}
+use Rattle.model.specs.Meets.{lists}
 use Rattle.query.proofs.ask.boxed.Statement.{statement}
 use Rattle.query.proofs.ask.boxed.Tie as tie
 
@@ -10,6 +11,7 @@ same-length : tie.Need-same-length
 same-length c = search needs
 
 returns : tie.Need-returns
+unfolding lists
 returns c = c .before .before .ask .ensures
 
 pub boxed-spec : {M : Type 1} → statement M

@@ -123,7 +123,7 @@ same-length-11 c = search needs
 returns-5 : tie.Need-returns-5
 returns-5 c =
     let a = c .before .before .before .ball in
-    rw (c .before .before .before .before .before .before .before .before .call4 .given .1) (ball-meets _ _ _ _ _ _ (c .of-reply .ensures _) _ _ (a .ensures))
+    rw (c .before .before .before .before .before .before .before .before .call4 .given .1) (ball-meets _ _ _ _ _ _ (c .of-reply .ensures _) _ _ (a .ensures .0))
 
 same-length-12 : tie.Need-same-length-12
 same-length-12 c = search needs
@@ -137,7 +137,7 @@ same-length-14 c = search needs
 returns-6 : tie.Need-returns-6
 returns-6 c =
     let a = c .before .before .before .boxed in
-    rw (c .before .before .before .before .before .before .before .before .call5 .given .1) (box-meets _ _ _ _ _ _ (c .of-reply2 .ensures _) _ _ (a .ensures))
+    rw (c .before .before .before .before .before .before .before .before .call5 .given .1) (box-meets _ _ _ _ _ _ (c .of-reply2 .ensures _) _ _ (a .ensures .0))
 
 same-length-15 : tie.Need-same-length-15
 same-length-15 c = search needs
@@ -148,7 +148,7 @@ same-length-16 c = search needs
 returns-7 : tie.Need-returns-7
 returns-7 c =
     let a = c .before .nearest in
-    rw (c .before .before .before .before .before .call6 .given .1) (nearest-meets _ _ _ _ _ _ (c .of-reply3 .ensures _) _ _ (a .ensures _))
+    rw (c .before .before .before .before .before .call6 .given .1) (nearest-meets _ _ _ _ _ _ (c .of-reply3 .ensures _) _ _ (a .ensures .0 _))
 
 pub call-spec : {M : Type 1} → statement M
 call-spec =
