@@ -41,7 +41,7 @@ struct Day {
 }
 
 impl Day {
-    /// The morning: any words.
+    /// Before the first call: any words.
     fn new(lengths: Lengths, state: &mut u64) -> Self {
         let scanned = Scanned::new(lengths, state);
         let words = scanned.expected.clone();

@@ -137,39 +137,32 @@ fn scanned_day(
     day
 }
 
+/// What the driver leaves: both tables, the listings and the answers.
+type Left = [Vec<u32>; 4];
+
+/// Runs a script on tables, with words for the answers. No word beside what is lent is written.
+fn run(script: &Script, tables: &Words, answers: &[u32]) -> (usize, Left) {
+    let mut lent = [&tables.0[..], &tables.1, &script.listings, answers].map(Lent::new);
+    let [s, o, l, a] = lent.each_mut().map(|lent| {
+        let within = lent.within();
+        (within.as_mut_ptr(), within.len())
+    });
+    let (w, f, b) = (&script.words, &script.floats, &script.sheets);
+    let (words, floats, sheets) = ((w.as_ptr(), w.len()), (f.as_ptr(), f.len()), (b.as_ptr(), b.len()));
+    let steps = unsafe {
+        hbx_replay(s.0, s.1, o.0, o.1, words.0, words.1, floats.0, floats.1, sheets.0, sheets.1, l.0, l.1, a.0, a.1)
+    };
+    (steps, lent.map(|mut lent| lent.left().expect("a word beside what is lent is written").to_vec()))
+}
+
 /// Runs the script of a day, and compares all that is left.
-fn replayed(compared: &mut Compared, morning: &Words, day: &[(Call, Answer)], evening: &Words, state: &mut u64) {
+fn replayed(compared: &mut Compared, before: &Words, day: &[(Call, Answer)], after: &Words, state: &mut u64) {
     let mut script = Script::default();
     day.iter().for_each(|(call, _)| script.push(call, state));
-    // Words past the script's, which stay.
-    script.listings.extend([7; 3]);
+    script.listings.extend([7; 3]); // words past the script's, which stay
     let answers = vec![0xBEEF; ANSWER * day.len() + below(ANSWER, state)];
-    let mut lent = [&morning.0, &morning.1, &script.listings, &answers].map(|words| Lent::new(words));
-    let steps = unsafe {
-        let [s, o, l, a] = lent.each_mut().map(|lent| {
-            let within = lent.within();
-            (within.as_mut_ptr(), within.len())
-        });
-        let (w, f, b) = (&script.words, &script.floats, &script.sheets);
-        hbx_replay(
-            s.0,
-            s.1,
-            o.0,
-            o.1,
-            w.as_ptr(),
-            w.len(),
-            f.as_ptr(),
-            f.len(),
-            b.as_ptr(),
-            b.len(),
-            l.0,
-            l.1,
-            a.0,
-            a.1,
-        )
-    };
+    let (steps, [s, o, l, a]) = run(&script, before, &answers);
     assert_eq!(steps, day.len());
-    let [s, o, l, a] = lent.each_mut().map(|lent| lent.left().expect("a word beside what is lent is written"));
     let mut at = 0;
     for (i, (call, answer)) in day.iter().enumerate() {
         let room = if let Call::Pick(_, lent) = call { lent.len() } else { 0 };
@@ -178,8 +171,8 @@ fn replayed(compared: &mut Compared, morning: &Words, day: &[(Call, Answer)], ev
         at += room;
         compared.count(call, true, answer.number);
     }
-    assert_eq!((&l[at..], &a[ANSWER * day.len()..]), (&script.listings[at..], &answers[ANSWER * day.len()..]));
-    assert!(s == evening.0 && o == evening.1, "the tables after the script");
+    assert_eq!((&l[at..], &a[ANSWER * steps..]), (&script.listings[at..], &answers[ANSWER * steps..]));
+    assert!((&s, &o) == (&after.0, &after.1), "the tables after the script");
 }
 
 /// So many scripts of each kind of lengths, with each bucket size.
@@ -189,9 +182,9 @@ fn scripts(compared: &mut Compared, rounds: usize, calls: usize, mut state: u64)
         for (kind, bucket) in (0..6).flat_map(|kind| SIZES.map(|bucket| (kind, bucket))) {
             let (lengths, lines) = any_lengths(kind, &pool(200, state), bucket, state);
             let mut scanned = Scanned::new(lengths, state);
-            let morning = scanned.expected.clone();
+            let before = scanned.expected.clone();
             let day = scanned_day(&mut scanned, bucket, round, calls, lines, state);
-            replayed(compared, &morning, &day, &scanned.expected, state);
+            replayed(compared, &before, &day, &scanned.expected, state);
         }
     }
 }
@@ -206,33 +199,14 @@ fn scripts_of_whole_days() {
 /// Fewer words, floats or answer words than the script has steps: so many steps are made, and the rest stays.
 #[test]
 fn short_of_room() {
-    let mut tables = ([9; 30], [9; 40]);
-    let script = [0, 2, 0, 0, 0, 0, 2, 7, 1, 2, 3, 0, 3, 7, 0, 0, 0];
-    let floats = [0.0; 17];
-    for answer_words in 0..30 {
-        let mut answers = vec![0xBEEF; answer_words];
-        let (s, o) = (&mut tables.0, &mut tables.1);
-        let steps = unsafe {
-            hbx_replay(
-                s.as_mut_ptr(),
-                s.len(),
-                o.as_mut_ptr(),
-                o.len(),
-                script.as_ptr(),
-                script.len(),
-                floats.as_ptr(),
-                floats.len(),
-                [].as_ptr(),
-                0,
-                [].as_mut_ptr(),
-                0,
-                answers.as_mut_ptr(),
-                answers.len(),
-            )
-        };
-        assert_eq!(steps, (answer_words / ANSWER).min(script.len() / STEP));
-        assert!(answers[ANSWER * steps..].iter().all(|&word| word == 0xBEEF));
-        assert!(answers[..ANSWER * steps].iter().all(|&word| word == 0));
+    let steps = [[0, 2, 0, 0, 0, 0], [2, 7, 1, 2, 3, 0], [3, 7, 0, 0, 0, 0]].concat();
+    let tables = (vec![9; 30], vec![9; 40]);
+    for (words, floats, answers) in [(18, 18, 26), (17, 18, 27), (18, 17, 27), (18, 18, 27), (5, 18, 27), (18, 18, 0)] {
+        let script = Script { words: steps[..words].to_vec(), floats: vec![0.0; floats], ..Script::default() };
+        let (made, [_, _, _, left]) = run(&script, &tables, &vec![0xBEEF; answers]);
+        assert_eq!(made, (words / STEP).min(floats / STEP).min(answers / ANSWER));
+        let (given, rest) = left.split_at(ANSWER * made);
+        assert!(given.iter().all(|&word| word == 0) && rest.iter().all(|&word| word == 0xBEEF));
     }
 }
 

@@ -22,7 +22,7 @@ pub struct Scanned {
 }
 
 impl Scanned {
-    /// The morning: any words.
+    /// Before the first call: any words.
     pub fn new(lengths: Lengths, state: &mut u64) -> Self {
         let mut any = |length: usize| -> Vec<u32> { (0..length).map(|_| random(state) as u32).collect() };
         Scanned { set: Err(lengths), expected: (any(lengths.0), any(lengths.1)) }
