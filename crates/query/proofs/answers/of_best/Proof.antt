@@ -1,13 +1,14 @@
 -- `answers::of_best`: by whether one was found.
 use mathlib.Core.Path.{refl}
 use borrow.Author.Tests.{lt-ltb, le-ltb}
+use Rattle.model.specs.Machine.{listAnswer, nearestAnswer}
 use Rattle.nearest.specs.Best.{bestAnswer}
 use Rattle.query.specs.Answers.{replyAnswer, ofKind}
 use Rattle.query.proofs.answers.of_best.Statement.{statement}
 use Rattle.query.proofs.answers.of_best.Tie as tie
 
 returns : tie.Need-returns
-unfolding replyAnswer ofKind bestAnswer
+unfolding replyAnswer ofKind bestAnswer listAnswer nearestAnswer
 returns c = (λ lent. rw (le-ltb _ _ (c .if1 .taken), bestAnswer), refl)
 
 returns-2 : tie.Need-returns-2
