@@ -1,12 +1,12 @@
 -- The program walklist: what it prints for what stands on its standard input (document 01, after "Cases a to l").
 use Prim.Native.Nat.{ℕ, _+_, _*_}
 use mathlib.Core.Bool.{true, false}
-use mathlib.Core.List.{List, [], _∷_, _++_}
+use mathlib.Core.List.{List, [], _∷_, _++_, map}
 use lib.Dec.{eqb}
 use lib.ListN.{take}
 use Rattle.sheet.specs.Column.{columnOf, newline}
 use Rattle.sheet.specs.Line.{tagColumns}
-use Rattle.model.specs.SampleSet.{Placed, order}
+use Rattle.model.specs.SampleSet.{order}
 use Rattle.model.specs.Layout.{current, sampleHeader, sampleWidth, octantHeader, octantWidth}
 use Rattle.model.specs.Queries.{tagOf}
 use Rattle.model.specs.Machine.{Machine, Load, Outcome, startOn, step}
@@ -16,17 +16,17 @@ unfoldable pub walklistStart : Machine
 walklistStart =
     startOn (record { bucket = 2 }) (sampleHeader current + 512 * sampleWidth current) (octantHeader current + 1489 * octantWidth current)
 
--- Each tag of the order in 10 columns and a newline.
-unfoldable pub tagLines : List Placed → List ℕ
+-- Each tag in 10 columns and a newline.
+unfoldable pub tagLines : List ℕ → List ℕ
 tagLines [] = []
-tagLines (x ∷ rest) = columnOf tagColumns (tagOf x) ++ (newline ∷ tagLines rest)
+tagLines (tag ∷ rest) = columnOf tagColumns tag ++ (newline ∷ tagLines rest)
 
 -- `REFUSED`, the number in 3 columns, a newline.
 unfoldable pub refusedLine : ℕ → List ℕ
 refusedLine n = 82 ∷ 69 ∷ 70 ∷ 85 ∷ 83 ∷ 69 ∷ 68 ∷ columnOf 3 n ++ (newline ∷ [])
 
--- 32,768 bytes at most; what follows is cut off.
+-- 32,768 bytes at most; what follows is cut off. It prints the tags of the order, or the refusal.
 unfoldable pub walklistPrints : List ℕ → List ℕ
 walklistPrints input =
     let o : Outcome = step walklistStart (Load (take 32768 input)) in
-    elim (eqb (o .answer .number) 0) [ true ↦ tagLines (order (o .next .set)) | false ↦ refusedLine (o .answer .number) ]
+    elim (eqb (o .answer .number) 0) [ true ↦ tagLines (map tagOf (order (o .next .set))) | false ↦ refusedLine (o .answer .number) ]

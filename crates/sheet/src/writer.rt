@@ -58,7 +58,7 @@ fn name_good(name: &[u8]) -> bool
 }
 
 // Writes a number into the columns of a line that start at `at`.
-fn put_number_at(line: &mut [u8], at: usize, columns: usize, n: u64)
+pub fn put_number_at(line: &mut [u8], at: usize, columns: usize, n: u64)
     requires { ⌜ at + columns ≤ length (now line) ⌝ }
     ensures { λ _. ⌜ now (line .exit) ≡ putAt at (columnOf columns n) (now (line .entry)) ⌝ }
 {
