@@ -1,0 +1,72 @@
+-- What is printed: the tags of the order, or the refusal.
+use Prim.Native.Nat.{ℕ, _*_, min, _≤_, _<_}
+use mathlib.Core.Bool.{Bool, true, false}
+use mathlib.Core.List.{List, _++_, map}
+use mathlib.Core.Path.{_≡_, refl, sym, ap, subst, _∙_}
+use native.Mathlib.Omega.{arith}
+use borrow.Author.Tests.{leb-true, leb-false, eq-eqb, ne-eqb}
+use lib.Dec.{leb}
+use lib.ListN.{length, take, drop, length-append}
+use lib.Seq.{take-all}
+use Rattle.model.specs.SampleSet.{order}
+use Rattle.model.specs.Tables.{Tables}
+use Rattle.model.specs.Queries.{tagOf}
+use Rattle.model.specs.Machine.{Outcome, Load, step}
+use Rattle.model.specs.Walklist.{walklistStart, tagLines, refusedLine, walklistPrints}
+use Rattle.tag_list.specs.Printed.{Printed, OrderPrinted, SheetLoaded}
+use Rattle.tag_list.proofs.Laws.Lines.{lines-length, refusal-length}
+use Rattle.tag_list.proofs.Laws.Order.{Ordered}
+use Rattle.tag_list.proofs.Laws.Loading.{loaded-shows}
+
+-- What is printed lies within the text.
+pub printed-within : {bytes before after : List ℕ} {n : ℕ} → Printed bytes before after n → n ≤ length after
+printed-within {bytes} {before} {after} {n} p = omega (arith, p .count, ap length (p .text), length-append bytes (drop n before))
+
+-- A sheet that is cut at the lesser of its length and a number is cut at that number.
+take-least : (input : List ℕ) (most : ℕ) → take (min (length input) most) input ≡ take most input
+take-least input most = go (leb (length input) most) refl
+  where
+    go : (b : Bool) → leb (length input) most ≡ b → take (min (length input) most) input ≡ take most input
+    go true e =
+        let short : length input ≤ most = leb-true (length input) most e in
+        take-all (min (length input) most) input (omega arith) ∙ sym (take-all most input short)
+    go false e =
+        let long : most < length input = leb-false (length input) most e in
+        let cut : min (length input) most ≡ most = omega arith in
+        ap (λ (k : ℕ). take k input) cut
+
+pub cut-loaded : (input : List ℕ) (k n : ℕ) (t : Tables) → k ≡ min (length input) 32768 → SheetLoaded (take k input) n t → SheetLoaded (take 32768 input) n t
+cut-loaded input k n t e h = subst (λ (sheet : List ℕ). SheetLoaded sheet n t) (ap (λ (i : ℕ). take i input) e ∙ take-least input 32768) h
+
+-- Lines of the tags of the order.
+pub order-printed : (t : Tables) (listing before after : List ℕ) (n : ℕ) → Ordered t listing n
+    → after ≡ tagLines (take n listing) ++ drop (11 * length (take n listing)) before → OrderPrinted t before after (11 * n)
+unfolding OrderPrinted
+order-printed t listing before after n o e m shows =
+    let tags : List ℕ = map tagOf (order (m .set)) in
+    let is : take n listing ≡ tags = o .are m shows in
+    record {
+      count = omega (arith, lines-length tags, ap length is, o .size);
+      text = e ∙ ap (λ (k : ℕ). tagLines (take n listing) ++ drop (11 * k) before) (o .size) ∙ ap (λ (l : List ℕ). tagLines l ++ drop (11 * n) before) is;
+    }
+
+module _ (input : List ℕ) (n : ℕ) (t : Tables) (loaded : SheetLoaded (take 32768 input) n t) where
+  abbrev o : Outcome
+  o = step walklistStart (Load (take 32768 input))
+
+  -- What is printed, where it is known whether the number is 0.
+  abbrev printed : Bool → List ℕ
+  printed accepted = elim accepted [ true ↦ tagLines (map tagOf (order (o .next .set))) | false ↦ refusedLine (o .answer .number) ]
+
+  pub refusal-printed : (n ≡ 0 → ⊥) → (before after : List ℕ) → after ≡ refusedLine n ++ drop 11 before → Printed (walklistPrints input) before after 11
+  unfolding walklistPrints
+  refusal-printed refused before after e =
+      let is : walklistPrints input ≡ refusedLine n = ap printed (ne-eqb (o .answer .number) 0 (λ z. refused (loaded .number-is ∙ z))) ∙ ap refusedLine (sym (loaded .number-is)) in
+      record { count = omega (arith, ap length is, refusal-length n); text = e ∙ ap (λ (l : List ℕ). l ++ drop 11 before) (sym is) }
+
+  pub tags-printed : n ≡ 0 → (before after : List ℕ) (k : ℕ) → OrderPrinted t before after k → Printed (walklistPrints input) before after k
+  unfolding walklistPrints OrderPrinted
+  tags-printed accepted before after k h =
+      let is : walklistPrints input ≡ tagLines (map tagOf (order (o .next .set))) = ap printed (eq-eqb (o .answer .number) 0 (sym (loaded .number-is) ∙ accepted)) in
+      let p = h (o .next) (loaded-shows (take 32768 input) n t loaded) in
+      record { count = p .count ∙ ap length (sym is); text = p .text ∙ ap (λ (l : List ℕ). l ++ drop k before) (sym is) }

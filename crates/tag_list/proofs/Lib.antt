@@ -1,0 +1,2 @@
+-- Laws on what is printed.
+pub mod Laws

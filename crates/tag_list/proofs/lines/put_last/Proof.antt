@@ -1,0 +1,28 @@
+-- `lines::put_last`: a newline stands after the number.
+use borrow.Author.Needs.{needs}
+use Rattle.sheet.specs.Column.{newline}
+use Rattle.tag_list.proofs.Laws.Lines.{last-put}
+use Rattle.tag_list.proofs.lines.put_last.Statement.{statement}
+use Rattle.tag_list.proofs.lines.put_last.Tie as tie
+
+put-number-at-requires : tie.Need-put-number-at-requires
+put-number-at-requires c κs = search needs
+
+add-text : tie.Need-add-text
+add-text c = search needs
+
+slice-write-text : tie.Need-slice-write-text
+slice-write-text c = search needs
+
+same-length : tie.Need-same-length
+same-length c = search needs
+
+returns : tie.Need-returns
+unfolding newline
+returns c =
+    let a = c .before .before .before .before .before in
+    last-put (a .args .text .now) (a .args .at) (a .args .columns) (a .args .n) (a .pre) _ (c .before .before .put-number-at .ensures)
+
+pub put-last-spec : {M : Type 1} → statement M
+put-last-spec =
+    tie.close (tie.spec put-number-at-requires add-text slice-write-text same-length returns)

@@ -1,0 +1,3 @@
+// What the program walklist prints.
+mod lines;
+pub mod print;
