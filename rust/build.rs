@@ -1,4 +1,4 @@
-//! Finds the static library, which `rt` writes at the root of the repository, and tells cargo to link it.
+//! Finds the static library, which `make lib` writes at the root of the repository, and tells cargo to link it.
 
 use std::env;
 use std::path::PathBuf;
@@ -8,7 +8,7 @@ fn main() {
     let library = folder.join("libhubeltxa.a");
     println!("cargo:rerun-if-changed={}", library.display());
     if !library.is_file() {
-        eprintln!("{} is missing: run `rt staticlib hubeltxa` at the root of the repository", library.display());
+        eprintln!("{} is missing: run `make lib` at the root of the repository", library.display());
         std::process::exit(1);
     }
     println!("cargo:rustc-link-search=native={}", folder.display());

@@ -20,7 +20,7 @@ mod sets;
 use calls::*;
 use compared::{Compared, Tables, CHANGES};
 use damage::Both;
-use hubeltxa::{HEADER_LENGTH as HEADER, LINE_LENGTH as LINE};
+use hubeltxa::{lent as wrapper, Refusal, HEADER_LENGTH as HEADER, LINE_LENGTH as LINE};
 use lines::*;
 use random::*;
 use sets::*;
@@ -58,7 +58,7 @@ fn sequence(
             }),
             _ => _ = compared.call(&mut tables, &call),
         }
-        assert!(hubeltxa::check(&tables.samples, &tables.octants));
+        assert!(wrapper::check(&tables.samples, &tables.octants));
     }
 }
 
@@ -571,16 +571,16 @@ fn within_the_stack() {
     let (most, again) = (sheet(&samples[..last]), sheet(&samples[last..]));
     let (mut s, mut o) = (vec![0; 2 + 5 * MOST], vec![0; 1 + 11 * 17 * MOST]);
     let run = move || {
-        assert_eq!(hubeltxa::clear(&mut s, &mut o, 1), Ok(()));
-        assert_eq!(hubeltxa::load(&mut s, &mut o, &most), Ok(last as u32));
-        assert_eq!(hubeltxa::add(&mut s, &mut o, known, [0; 3]), Err(5));
-        assert_eq!(hubeltxa::add(&mut s, &mut o, 1, [0; 3]), Ok(()));
-        assert_eq!(hubeltxa::remove(&mut s, &mut o, 1), Ok(()));
-        assert_eq!(hubeltxa::load(&mut s, &mut o, &again), Ok(1));
-        assert!(hubeltxa::load(&mut s, &mut o, &again).is_err());
-        assert_eq!(hubeltxa::remove(&mut s, &mut o, first), Ok(()));
-        assert!(hubeltxa::load(&mut s, &mut o, &most).is_err());
-        assert!(hubeltxa::check(&s, &o));
+        assert_eq!(wrapper::clear(&mut s, &mut o, 1), Ok(()));
+        assert_eq!(wrapper::load(&mut s, &mut o, &most), Ok(last as u32));
+        assert_eq!(wrapper::add(&mut s, &mut o, known, [0; 3]), Err(Refusal::KnownTag));
+        assert_eq!(wrapper::add(&mut s, &mut o, 1, [0; 3]), Ok(()));
+        assert_eq!(wrapper::remove(&mut s, &mut o, 1), Ok(()));
+        assert_eq!(wrapper::load(&mut s, &mut o, &again), Ok(1));
+        assert!(wrapper::load(&mut s, &mut o, &again).is_err());
+        assert_eq!(wrapper::remove(&mut s, &mut o, first), Ok(()));
+        assert!(wrapper::load(&mut s, &mut o, &most).is_err());
+        assert!(wrapper::check(&s, &o));
     };
     let thread = std::thread::Builder::new().stack_size(STACK + 16_384);
     thread.spawn(run).unwrap().join().unwrap();

@@ -48,10 +48,11 @@ fn answer(result: Result<[u32; 3], u32>) -> Answer {
 }
 
 fn wrapper(call: Call) -> Answer {
-    answer(match call {
+    let result = match call {
         Call::Codes(p) => hubeltxa::codes(p.map(f32::from_bits)),
         Call::Floats(c) => hubeltxa::floats(c).map(|p| p.map(f32::to_bits)),
-    })
+    };
+    answer(result.map_err(u32::from))
 }
 
 fn oracle(call: Call) -> Answer {

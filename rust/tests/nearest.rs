@@ -452,7 +452,7 @@ fn within_the_stack() {
         for (samples, octants) in &tables {
             for _ in 0..80 {
                 let centre = row_codes(samples, &mut state).map(float);
-                _ = hubeltxa::nearest(samples, octants, centre, float(LARGEST));
+                _ = hubeltxa::lent::nearest(samples, octants, centre, float(LARGEST));
             }
         }
     });

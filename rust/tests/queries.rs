@@ -363,8 +363,8 @@ fn long_tables_that_point_everywhere() {
 fn ask_all(samples: &[u32], octants: &[u32], queries: &[Gesture], listing: &mut [u32]) {
     for query in queries {
         _ = match *query {
-            Gesture::Ball { centre, radius } => hubeltxa::ball(samples, octants, centre, radius, listing),
-            Gesture::Box { low, high } => hubeltxa::box_(samples, octants, low, high, listing),
+            Gesture::Ball { centre, radius } => hubeltxa::lent::ball(samples, octants, centre, radius, listing),
+            Gesture::Box { low, high } => hubeltxa::lent::box_(samples, octants, low, high, listing),
             Gesture::Near { .. } => unreachable!(),
         };
     }

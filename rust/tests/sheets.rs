@@ -82,7 +82,7 @@ fn wrapper(call: Call) -> Answer {
         Call::Line { tag, codes, name, lent } => {
             let mut line = buffer(lent);
             let result = hubeltxa::write_line(tag, codes, name, &mut line);
-            Answer::Line(result.err().unwrap_or(0), line)
+            Answer::Line(result.err().map_or(0, u32::from), line)
         }
         Call::Name { sheet, tag } => {
             let found = hubeltxa::name(sheet, tag);

@@ -31,7 +31,7 @@ fn check(samples: &[u32], octants: &[u32]) -> bool {
     };
     assert_eq!(number, expected as u32, "the library on {}", shown(samples, octants));
     assert!(s.left() == Some(samples) && o.left() == Some(octants), "a check wrote on {}", shown(samples, octants));
-    assert_eq!(hubeltxa::check(samples, octants), expected, "the wrapper on {}", shown(samples, octants));
+    assert_eq!(hubeltxa::lent::check(samples, octants), expected, "the wrapper on {}", shown(samples, octants));
     expected
 }
 
@@ -50,7 +50,7 @@ fn clear(samples: &[u32], octants: &[u32], bucket: u32) -> u32 {
     let left = s.left() == Some(&tables.0) && o.left() == Some(&tables.1);
     assert!(left, "the library's words, bucket size {bucket}, on {}", shown(samples, octants));
     let (mut s, mut o) = (samples.to_vec(), octants.to_vec());
-    let given = hubeltxa::clear(&mut s, &mut o, bucket).err().unwrap_or(0);
+    let given = hubeltxa::lent::clear(&mut s, &mut o, bucket).err().map_or(0, u32::from);
     assert_eq!((given, (s, o)), (number, tables), "the wrapper, bucket size {bucket}");
     number
 }

@@ -8,7 +8,7 @@ pub mod query;
 use crate::lent::Lent;
 use crate::sets::*;
 use crate::straight_scan::{self, Bin, Call, Gesture, Sample};
-use hubeltxa::{raw, RefusedLoad};
+use hubeltxa::{lent, raw, Refusal, RefusedLoad};
 use std::ops::Range;
 
 /// What a call answers: its number, and how many lines were taken (0 but of a load).
@@ -105,16 +105,26 @@ pub fn through_c(samples: &mut [u32], octants: &mut [u32], call: &Call) -> Answe
     (number, taken)
 }
 
+/// The number of what the wrapper gives: 0 where it accepts.
+pub fn number_of<T>(result: Result<T, Refusal>) -> u32 {
+    result.err().map_or(0, u32::from)
+}
+
+/// The answer that the wrapper gives of a load.
+pub fn loaded(result: Result<u32, RefusedLoad>) -> Answer {
+    match result {
+        Ok(taken) => (0, taken),
+        Err(RefusedLoad { refusal, taken }) => (refusal.number(), taken),
+    }
+}
+
 pub fn through_wrapper(s: &mut [u32], o: &mut [u32], call: &Call) -> Answer {
-    let plain = |result: Result<(), u32>| (result.err().unwrap_or(0), 0);
+    let plain = |result: Result<(), Refusal>| (number_of(result), 0);
     match call {
-        Call::Clear(bucket) => plain(hubeltxa::clear(s, o, *bucket)),
-        Call::Add(tag, codes) => plain(hubeltxa::add(s, o, *tag, *codes)),
-        Call::Remove(tag) => plain(hubeltxa::remove(s, o, *tag)),
-        Call::Load(sheet) => match hubeltxa::load(s, o, sheet) {
-            Ok(taken) => (0, taken),
-            Err(RefusedLoad { number, taken }) => (number, taken),
-        },
+        Call::Clear(bucket) => plain(lent::clear(s, o, *bucket)),
+        Call::Add(tag, codes) => plain(lent::add(s, o, *tag, *codes)),
+        Call::Remove(tag) => plain(lent::remove(s, o, *tag)),
+        Call::Load(sheet) => loaded(lent::load(s, o, sheet)),
         Call::Pick(..) => unreachable!(),
     }
 }

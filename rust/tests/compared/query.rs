@@ -4,7 +4,7 @@ use super::{Compared, Tables};
 use crate::lent::Lent;
 use crate::sets::shown;
 use crate::straight_scan::{self, Answer, Bin, Call, Gesture};
-use hubeltxa::{raw, Listed, Nearest};
+use hubeltxa::{lent as wrapper, raw, Listed, Nearest, Refusal};
 
 /// A listing of so many words, no two equal.
 pub fn listing(length: usize) -> Vec<u32> {
@@ -58,28 +58,40 @@ pub fn through_c(samples: &[u32], octants: &[u32], query: &Gesture, lent: &[u32]
     Answer { number, listed: one, entered: two, measured: three, listing, ..Answer::default() }
 }
 
-pub fn through_wrapper(samples: &[u32], octants: &[u32], query: &Gesture, lent: &[u32]) -> Answer {
-    let mut listing = lent.to_vec();
-    let result = match *query {
-        Gesture::Ball { centre, radius } => hubeltxa::ball(samples, octants, centre, radius, &mut listing),
-        Gesture::Box { low, high } => hubeltxa::box_(samples, octants, low, high, &mut listing),
-        Gesture::Near { centre, radius } => {
-            return match hubeltxa::nearest(samples, octants, centre, radius) {
-                Ok(Some(Nearest { tag, distance })) => {
-                    Answer { found: true, tag, d2: distance, listing, ..Answer::default() }
-                }
-                Ok(None) => Answer { listing, ..Answer::default() },
-                Err(number) => Answer { number, listing, ..Answer::default() },
-            };
+/// The answer that the wrapper gives of a ball or a box: its reports and the whole listing as left, of which the tags are
+/// the first part.
+pub fn listed(
+    mut listing: Vec<u32>,
+    ask: impl for<'a> FnOnce(&'a mut Vec<u32>) -> Result<Listed<'a>, Refusal>,
+) -> Answer {
+    let reports = ask(&mut listing)
+        .map(|Listed { tags, entered, measured }| (tags.as_ptr_range(), tags.len(), entered, measured));
+    match reports {
+        Ok((tags, listed, entered, measured)) => {
+            assert_eq!(tags, listing[..listed].as_ptr_range(), "the tags are another part than the listing's first");
+            Answer { listed: listed as u32, entered, measured, listing, ..Answer::default() }
         }
-    };
+        Err(refusal) => Answer { number: refusal.number(), listing, ..Answer::default() },
+    }
+}
+
+/// The answer that the wrapper gives of nearest, with the listing, which it is not lent.
+pub fn found(listing: Vec<u32>, result: Result<Option<Nearest>, Refusal>) -> Answer {
     match result {
-        Ok(given) => {
-            assert_eq!(given.tags(&listing), &listing[..given.listed as usize]);
-            let Listed { listed, entered, measured } = given;
-            Answer { listed, entered, measured, listing, ..Answer::default() }
+        Ok(Some(Nearest { tag, distance })) => Answer { found: true, tag, d2: distance, listing, ..Answer::default() },
+        Ok(None) => Answer { listing, ..Answer::default() },
+        Err(refusal) => Answer { number: refusal.number(), listing, ..Answer::default() },
+    }
+}
+
+pub fn through_wrapper(samples: &[u32], octants: &[u32], query: &Gesture, lent: &[u32]) -> Answer {
+    let lent = lent.to_vec();
+    match *query {
+        Gesture::Ball { centre, radius } => {
+            listed(lent, |listing| wrapper::ball(samples, octants, centre, radius, listing))
         }
-        Err(number) => Answer { number, listing, ..Answer::default() },
+        Gesture::Box { low, high } => listed(lent, |listing| wrapper::box_(samples, octants, low, high, listing)),
+        Gesture::Near { centre, radius } => found(lent, wrapper::nearest(samples, octants, centre, radius)),
     }
 }
 

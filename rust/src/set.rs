@@ -1,0 +1,429 @@
+//! A sample set that owns its tables.
+
+use crate::answer::{Listed, Nearest};
+use crate::lent;
+use crate::refusal::{Refusal, RefusedLoad};
+use std::fmt::{self, Debug, Formatter};
+
+/// A tag and a colour: see [`SampleSet::samples`] and [`SampleSet::in_order`].
+///
+/// ```
+/// use hubeltxa::{Sample, SampleSet};
+///
+/// let mut set = SampleSet::for_samples(100, 16)?;
+/// set.add(7, [1, 2, 3])?;
+/// assert_eq!(set.samples().next(), Some(Sample { tag: 7, codes: [1, 2, 3] }));
+/// # Ok::<(), hubeltxa::Refusal>(())
+/// ```
+#[derive(Clone, Copy, Debug, PartialEq, Eq, Hash)]
+pub struct Sample {
+    /// Any 32-bit number; no two samples of a set have the same.
+    pub tag: u32,
+    /// Red, green and blue, each from 0 to 65,535.
+    pub codes: [u32; 3],
+}
+
+/// A set of samples with the two tables that it stands in.
+///
+/// Only the library's calls write the tables, so they are always sound: no method here gives
+/// [`TooShort`](Refusal::TooShort) or [`Unsound`](Refusal::Unsound). A query takes the listing as a `Vec`, which it
+/// lengthens where it has fewer words than the set has samples, so none gives [`NoRoom`](Refusal::NoRoom) either, and each
+/// is one pass. Lend the same `Vec` again and again: it is lengthened no more than the set grows.
+///
+/// Queries take `&self`, so several threads may ask one set at once. [`add`](SampleSet::add),
+/// [`remove`](SampleSet::remove) and [`load`](SampleSet::load) look at every word of both tables, and need less than 80,000
+/// bytes of stack (measured, not proved).
+///
+/// Two sets are equal where they have the same samples in the same sequence, bucket size, and rows; their tables are then
+/// the same, word by word.
+///
+/// ```
+/// use hubeltxa::SampleSet;
+///
+/// let mut set = SampleSet::for_samples(100, 16)?;
+/// set.add(7, [1, 2, 3])?;
+/// set.add(8, [60_000, 2, 3])?;
+///
+/// let centres = [[0.0; 3], [0.9, 0.0, 0.0]];
+/// let near = |centre| set.ball(centre, 0.1, &mut vec![]).map(|listed| listed.tags.to_vec());
+/// let found = std::thread::scope(|threads| {
+///     let asked = centres.map(|centre| threads.spawn(move || near(centre)));
+///     asked.map(|thread| thread.join().unwrap())
+/// });
+/// assert_eq!(found, [Ok(vec![7]), Ok(vec![8])]);
+/// # Ok::<(), hubeltxa::Refusal>(())
+/// ```
+#[derive(Clone, PartialEq, Eq)]
+pub struct SampleSet {
+    samples: Box<[u32]>,
+    octants: Box<[u32]>,
+}
+
+impl SampleSet {
+    /// The most samples that a set can hold.
+    pub const MOST_SAMPLES: usize = 4_096;
+
+    /// As many octants for each sample are always enough (proved).
+    pub const OCTANTS_PER_SAMPLE: usize = 17;
+
+    /// An empty set with room for so many samples and so many octants, and this bucket size.
+    ///
+    /// Rows that no set can use are not made: the set has 4,096 sample rows and 17 * 4,096 octant rows at most.
+    /// [`capacity`](SampleSet::capacity) says how many samples there is room for. How many octants a set needs depends
+    /// on its colours; [`for_samples`](SampleSet::for_samples) makes enough for any.
+    ///
+    /// # Errors
+    /// [`Refusal::Bucket`] (3) where the bucket size is not from 1 to 256.
+    ///
+    /// ```
+    /// use hubeltxa::{Refusal, SampleSet};
+    ///
+    /// let set = SampleSet::new(512, 1_489, 16)?;
+    /// assert_eq!((set.len(), set.capacity(), set.octant_capacity()), (0, 512, 1_489));
+    /// assert_eq!(SampleSet::new(5_000, 100, 16)?.capacity(), 4_096);
+    /// assert_eq!(SampleSet::new(512, 1_489, 257), Err(Refusal::Bucket));
+    /// # Ok::<(), Refusal>(())
+    /// ```
+    pub fn new(sample_rows: usize, octant_rows: usize, bucket: u32) -> Result<Self, Refusal> {
+        let sample_rows = sample_rows.min(Self::MOST_SAMPLES);
+        let octant_rows = octant_rows.min(Self::OCTANTS_PER_SAMPLE * Self::MOST_SAMPLES);
+        let words = |length: usize| vec![0; length].into_boxed_slice();
+        let mut set = SampleSet {
+            samples: words(lent::sample_words(sample_rows)),
+            octants: words(lent::octant_words(octant_rows)),
+        };
+        set.clear(bucket)?;
+        Ok(set)
+    }
+
+    /// An empty set with room for so many samples of any colours, 4,096 at most: it never gives
+    /// [`NoOctants`](Refusal::NoOctants). That takes 17 octants a sample, 768 bytes with the sample's own row; a set of
+    /// usual colours with a bucket size of 16 needs far fewer: see [`new`](SampleSet::new).
+    ///
+    /// # Errors
+    /// [`Refusal::Bucket`] (3) where the bucket size is not from 1 to 256.
+    ///
+    /// ```
+    /// let set = hubeltxa::SampleSet::for_samples(100, 16)?;
+    /// assert_eq!((set.capacity(), set.octant_capacity()), (100, 1_700));
+    /// # Ok::<(), hubeltxa::Refusal>(())
+    /// ```
+    pub fn for_samples(samples: usize, bucket: u32) -> Result<Self, Refusal> {
+        Self::new(samples, samples.saturating_mul(Self::OCTANTS_PER_SAMPLE), bucket)
+    }
+
+    /// How many samples are in the set.
+    ///
+    /// ```
+    /// let mut set = hubeltxa::SampleSet::for_samples(100, 16)?;
+    /// set.add(7, [1, 2, 3])?;
+    /// assert_eq!(set.len(), 1);
+    /// # Ok::<(), hubeltxa::Refusal>(())
+    /// ```
+    pub fn len(&self) -> usize {
+        self.samples[0] as usize
+    }
+
+    /// Whether no sample is in the set.
+    ///
+    /// ```
+    /// assert!(hubeltxa::SampleSet::for_samples(100, 16)?.is_empty());
+    /// # Ok::<(), hubeltxa::Refusal>(())
+    /// ```
+    pub fn is_empty(&self) -> bool {
+        self.len() == 0
+    }
+
+    /// The bucket size: an octant is split where it holds more samples than this and its side is over 1.
+    ///
+    /// ```
+    /// assert_eq!(hubeltxa::SampleSet::for_samples(100, 16)?.bucket(), 16);
+    /// # Ok::<(), hubeltxa::Refusal>(())
+    /// ```
+    pub fn bucket(&self) -> u32 {
+        self.samples[1]
+    }
+
+    /// How many samples there is room for, with those that are in the set.
+    ///
+    /// ```
+    /// assert_eq!(hubeltxa::SampleSet::for_samples(100, 16)?.capacity(), 100);
+    /// # Ok::<(), hubeltxa::Refusal>(())
+    /// ```
+    pub fn capacity(&self) -> usize {
+        (self.samples.len() - lent::sample_words(0)) / (lent::sample_words(1) - lent::sample_words(0))
+    }
+
+    /// How many octants the set's tree has; 0 where the set is empty.
+    ///
+    /// ```
+    /// let mut set = hubeltxa::SampleSet::for_samples(100, 1)?;
+    /// set.add(7, [0; 3])?;
+    /// assert_eq!(set.octant_count(), 1);
+    /// set.add(8, [65_535; 3])?;
+    /// assert_eq!(set.octant_count(), 3); // the root is split
+    /// # Ok::<(), hubeltxa::Refusal>(())
+    /// ```
+    pub fn octant_count(&self) -> usize {
+        self.octants[0] as usize
+    }
+
+    /// How many octants there is room for, with those of the set.
+    ///
+    /// ```
+    /// assert_eq!(hubeltxa::SampleSet::new(100, 300, 16)?.octant_capacity(), 300);
+    /// # Ok::<(), hubeltxa::Refusal>(())
+    /// ```
+    pub fn octant_capacity(&self) -> usize {
+        (self.octants.len() - lent::octant_words(0)) / (lent::octant_words(1) - lent::octant_words(0))
+    }
+
+    /// The words of the sample table; the [crate's page](crate#tables) says what they are.
+    ///
+    /// ```
+    /// let mut set = hubeltxa::SampleSet::new(2, 1, 16)?;
+    /// set.add(7, [1, 2, 3])?;
+    /// assert_eq!(set.sample_words(), [1, 16, 7, 1, 2, 3, 1, 0, 0, 0, 0, 0]);
+    /// # Ok::<(), hubeltxa::Refusal>(())
+    /// ```
+    pub fn sample_words(&self) -> &[u32] {
+        &self.samples
+    }
+
+    /// The words of the octant table; the [crate's page](crate#tables) says what they are.
+    ///
+    /// ```
+    /// let mut set = hubeltxa::SampleSet::new(2, 1, 16)?;
+    /// set.add(7, [1, 2, 3])?;
+    /// assert_eq!(set.octant_words(), [1, 0, 0, 1, 0, 0, 0, 0, 0, 0, 0, 0]);
+    /// # Ok::<(), hubeltxa::Refusal>(())
+    /// ```
+    pub fn octant_words(&self) -> &[u32] {
+        &self.octants
+    }
+
+    /// The samples as they came in.
+    ///
+    /// ```
+    /// let mut set = hubeltxa::SampleSet::for_samples(100, 1)?;
+    /// set.add(7, [65_535; 3])?;
+    /// set.add(8, [0; 3])?;
+    /// assert!(set.samples().map(|sample| sample.tag).eq([7, 8]));
+    /// # Ok::<(), hubeltxa::Refusal>(())
+    /// ```
+    pub fn samples(&self) -> impl ExactSizeIterator<Item = Sample> + '_ {
+        (0..self.len()).map(|row| self.sample(row))
+    }
+
+    /// The samples in the octree's order, in which queries list them.
+    ///
+    /// ```
+    /// let mut set = hubeltxa::SampleSet::for_samples(100, 1)?;
+    /// set.add(7, [65_535; 3])?;
+    /// set.add(8, [0; 3])?;
+    /// assert!(set.in_order().map(|sample| sample.tag).eq([8, 7]));
+    /// # Ok::<(), hubeltxa::Refusal>(())
+    /// ```
+    pub fn in_order(&self) -> impl Iterator<Item = Sample> + '_ {
+        // The root's first row; then each row's last word is the row that follows.
+        let first = self.octants.get(lent::octant_words(0)).copied();
+        let rows = std::iter::successors(first, |&row| Some(self.samples[lent::sample_words(row as usize + 1) - 1]));
+        rows.take(self.len()).map(|row| self.sample(row as usize))
+    }
+
+    /// The sample in a row.
+    fn sample(&self, row: usize) -> Sample {
+        let words = &self.samples[lent::sample_words(row)..];
+        Sample { tag: words[0], codes: [words[1], words[2], words[3]] }
+    }
+
+    /// Empties the set, and gives it this bucket size.
+    ///
+    /// # Errors
+    /// [`Refusal::Bucket`] (3) where the bucket size is not from 1 to 256; the set is as it was then.
+    ///
+    /// ```
+    /// let mut set = hubeltxa::SampleSet::for_samples(100, 16)?;
+    /// set.add(7, [1, 2, 3])?;
+    /// set.clear(256)?;
+    /// assert_eq!((set.len(), set.bucket()), (0, 256));
+    /// # Ok::<(), hubeltxa::Refusal>(())
+    /// ```
+    pub fn clear(&mut self, bucket: u32) -> Result<(), Refusal> {
+        lent::clear(&mut self.samples, &mut self.octants, bucket)
+    }
+
+    /// Adds a sample at the end of the set.
+    ///
+    /// # Errors
+    /// The first of these that is so; the set is as it was then:
+    /// - [`Refusal::Code`] (4) where a code is over 65,535;
+    /// - [`Refusal::KnownTag`] (5) where a sample of the set has the tag;
+    /// - [`Refusal::NoRow`] (6) where there is no room for another sample;
+    /// - [`Refusal::NoOctants`] (7) where there is not for its octants.
+    ///
+    /// ```
+    /// use hubeltxa::{Refusal, SampleSet};
+    ///
+    /// let mut set = SampleSet::for_samples(2, 16)?;
+    /// set.add(7, [1, 2, 3])?;
+    /// assert_eq!(set.add(8, [1, 2, 65_536]), Err(Refusal::Code));
+    /// assert_eq!(set.add(7, [4, 5, 6]), Err(Refusal::KnownTag));
+    /// set.add(8, [4, 5, 6])?;
+    /// assert_eq!(set.add(9, [4, 5, 6]), Err(Refusal::NoRow));
+    /// # Ok::<(), Refusal>(())
+    /// ```
+    pub fn add(&mut self, tag: u32, codes: [u32; 3]) -> Result<(), Refusal> {
+        lent::add(&mut self.samples, &mut self.octants, tag, codes)
+    }
+
+    /// Removes the sample with a tag. The others keep their order.
+    ///
+    /// # Errors
+    /// [`Refusal::UnknownTag`] (8) where no sample of the set has the tag; the set is as it was then.
+    ///
+    /// ```
+    /// use hubeltxa::{Refusal, SampleSet};
+    ///
+    /// let mut set = SampleSet::for_samples(100, 16)?;
+    /// set.add(7, [1, 2, 3])?;
+    /// set.remove(7)?;
+    /// assert_eq!(set.remove(7), Err(Refusal::UnknownTag));
+    /// # Ok::<(), Refusal>(())
+    /// ```
+    pub fn remove(&mut self, tag: u32) -> Result<(), Refusal> {
+        lent::remove(&mut self.samples, &mut self.octants, tag)
+    }
+
+    /// Adds the samples of a sheet's lines, line by line, up to the first line that is refused. Gives how many lines were
+    /// taken: all of them. The reel names are checked and not kept; [`name`](crate::name) finds them in the sheet.
+    ///
+    /// # Errors
+    /// [`Refusal::Header`] (11) where the header is not good, or the sheet not as long as it says; nothing is taken then.
+    ///
+    /// Otherwise the first of these that is so of the first line that is refused; the lines before it stay in the set, and
+    /// `taken` is how many they are:
+    /// - [`Refusal::Line`] (12) where the line is not good;
+    /// - [`Refusal::KnownTag`] (5) where a sample of the set, or of a line before it, has the tag;
+    /// - [`Refusal::NoRow`] (6) where there is no room for another sample;
+    /// - [`Refusal::NoOctants`] (7) where there is not for its octants.
+    ///
+    /// ```
+    /// use hubeltxa::{Refusal, RefusedLoad, SampleSet};
+    ///
+    /// let sheet = b"SWATCHES     2\n\
+    ///               \x20        7     0     0     0 A001                            \n\
+    ///               \x20        8 65535 65535 65535 A002                            \n";
+    /// let mut set = SampleSet::for_samples(100, 16)?;
+    /// assert_eq!(set.load(sheet), Ok(2));
+    ///
+    /// set.remove(7)?;
+    /// let refused = RefusedLoad { refusal: Refusal::KnownTag, taken: 1 }; // 7 is taken again, and 8 is in the set
+    /// assert_eq!(set.load(sheet), Err(refused));
+    /// # Ok::<(), Refusal>(())
+    /// ```
+    pub fn load(&mut self, sheet: &[u8]) -> Result<u32, RefusedLoad> {
+        lent::load(&mut self.samples, &mut self.octants, sheet)
+    }
+
+    /// Lists the samples in a ball. The tags are written from the listing's first word on; the words after them stay.
+    ///
+    /// Centre and radius are taken as codes, by the rule of [`codes`](crate::codes). A sample is in the ball where d² < r²:
+    /// d² is the sum of the three squared differences between its codes and the centre's, r the radius as a code.
+    ///
+    /// # Errors
+    /// [`Refusal::OutOfRange`] (9) where a channel of the centre is not in `0 <= v < 1`, or the radius not in `0 <= v < 2`.
+    ///
+    /// ```
+    /// use hubeltxa::{Listed, Refusal, SampleSet};
+    ///
+    /// let mut set = SampleSet::for_samples(100, 2)?;
+    /// for (tag, grey) in [(7, 0), (8, 65_535), (9, 0)] {
+    ///     set.add(tag, [grey; 3])?;
+    /// }
+    ///
+    /// let mut listing = vec![];
+    /// let black = set.ball([0.0; 3], 0.001, &mut listing)?;
+    /// assert_eq!(black, Listed { tags: &[7, 9], entered: 2, measured: 2 });
+    /// let all = set.ball([0.0; 3], 1.999, &mut listing)?;
+    /// assert_eq!(all, Listed { tags: &[7, 9, 8], entered: 1, measured: 0 });
+    /// assert_eq!(set.ball([0.0; 3], 2.0, &mut listing), Err(Refusal::OutOfRange));
+    /// # Ok::<(), Refusal>(())
+    /// ```
+    pub fn ball<'a>(&self, centre: [f32; 3], radius: f32, listing: &'a mut Vec<u32>) -> Result<Listed<'a>, Refusal> {
+        lent::ball(&self.samples, &self.octants, centre, radius, self.lengthened(listing))
+    }
+
+    /// Lists the samples in a box. The tags are written from the listing's first word on; the words after them stay.
+    ///
+    /// The low and the high colour are taken as codes, by the rule of [`codes`](crate::codes). A sample is in the box where
+    /// low <= code <= high in all three channels.
+    ///
+    /// # Errors
+    /// [`Refusal::OutOfRange`] (9) where a channel of either colour is not in `0 <= v < 1`, or low is above high in one, as
+    /// codes.
+    ///
+    /// ```
+    /// use hubeltxa::{Refusal, SampleSet};
+    ///
+    /// let mut set = SampleSet::for_samples(100, 2)?;
+    /// for (tag, grey) in [(7, 0), (8, 65_535), (9, 0)] {
+    ///     set.add(tag, [grey; 3])?;
+    /// }
+    ///
+    /// let mut listing = vec![];
+    /// assert_eq!(set.box_([0.25; 3], [0.999_999; 3], &mut listing)?.tags, [8]);
+    /// assert!(set.box_([0.25; 3], [0.75; 3], &mut listing)?.tags.is_empty());
+    /// assert_eq!(set.box_([0.75; 3], [0.25; 3], &mut listing), Err(Refusal::OutOfRange));
+    /// # Ok::<(), Refusal>(())
+    /// ```
+    pub fn box_<'a>(&self, low: [f32; 3], high: [f32; 3], listing: &'a mut Vec<u32>) -> Result<Listed<'a>, Refusal> {
+        lent::box_(&self.samples, &self.octants, low, high, self.lengthened(listing))
+    }
+
+    /// Finds the sample that is nearest to a centre, of those in the ball of this radius, or none where the ball holds none:
+    /// the least d² < r², as [`ball`](SampleSet::ball) has them, and the first in the order of the samples where several
+    /// have it.
+    ///
+    /// # Errors
+    /// [`Refusal::OutOfRange`] (9) where a channel of the centre is not in `0 <= v < 1`, or the radius not in `0 <= v < 2`.
+    ///
+    /// ```
+    /// use hubeltxa::{Nearest, Refusal, SampleSet};
+    ///
+    /// let mut set = SampleSet::for_samples(100, 2)?;
+    /// for (tag, grey) in [(7, 0), (8, 65_535), (9, 0)] {
+    ///     set.add(tag, [grey; 3])?;
+    /// }
+    ///
+    /// let dark = [3.0 / 65_536.0; 3]; // code 3 in each channel
+    /// assert_eq!(set.nearest(dark, 0.001)?, Some(Nearest { tag: 7, distance: 27 })); // 9 is as near, and after it
+    /// assert_eq!(set.nearest([0.5; 3], 0.001)?, None);
+    /// assert_eq!(set.nearest([0.5; 3], 2.0), Err(Refusal::OutOfRange));
+    /// # Ok::<(), Refusal>(())
+    /// ```
+    pub fn nearest(&self, centre: [f32; 3], radius: f32) -> Result<Option<Nearest>, Refusal> {
+        lent::nearest(&self.samples, &self.octants, centre, radius)
+    }
+
+    /// A listing that has a word for each sample at least, so that a query holds all and is one pass.
+    fn lengthened<'a>(&self, listing: &'a mut Vec<u32>) -> &'a mut [u32] {
+        if listing.len() < self.len() {
+            listing.resize(self.len(), 0);
+        }
+        listing
+    }
+}
+
+/// How much is in the set, and room for how much: of the tables themselves there can be hundreds of thousands of words.
+impl Debug for SampleSet {
+    fn fmt(&self, f: &mut Formatter<'_>) -> fmt::Result {
+        f.debug_struct("SampleSet")
+            .field("len", &self.len())
+            .field("capacity", &self.capacity())
+            .field("octant_count", &self.octant_count())
+            .field("octant_capacity", &self.octant_capacity())
+            .field("bucket", &self.bucket())
+            .finish_non_exhaustive()
+    }
+}
