@@ -3,12 +3,12 @@
 //!     key PICTURE SHEET RADIUS MATTE
 //!     key PICTURE --pick X,Y [--pick X,Y ..] RADIUS MATTE
 //!
-//! PICTURE is a PPM (P6). The samples are a sheet's, or the colours of picked pixels, counted from 0 at the top left. MATTE
-//! is written, a PGM (P5): a pixel is white where a ball of this radius around its colour lists any sample, and black where
-//! it lists none.
+//! PICTURE is a PPM (P6). The samples are a sheet's, or the colours of picked pixels, counted from 0 at the top left.
+//! MATTE is written, a PGM (P5): a pixel is white where a ball of this radius around its colour lists any sample, and
+//! black where it lists none.
 //!
-//! A value of the picture becomes the code value * 65,535 / greatest, rounded, so that black is code 0 and white 65,535: of
-//! eight bits that is value * 257, of sixteen the value itself.
+//! A value of the picture becomes the code value * 65,535 / greatest, rounded, so that black is code 0 and white
+//! 65,535: of eight bits that is value * 257, of sixteen the value itself.
 
 mod pictures;
 

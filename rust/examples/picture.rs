@@ -1,7 +1,7 @@
 //! Draws a picture to key: a head and shoulders before a lit wall, with grain. `picture OUT.ppm`
 //!
-//! Only sums, products, quotients, remainders and roots of 64-bit floats are used, and random numbers from a fixed seed, so the file is
-//! the same wherever it is made.
+//! Only sums, products, quotients, remainders and roots of 64-bit floats are used, each of which has one right result,
+//! and random numbers from a fixed seed, so that the file is the same wherever it is made.
 
 mod pictures;
 #[path = "../tests/random/mod.rs"]
@@ -164,8 +164,8 @@ fn grain(state: &mut u64) -> f64 {
     (0..4).map(|_| up_to_one(state) - 0.5).sum()
 }
 
-/// A pixel: the mean of sixteen places in it, the root of each channel as a display wants it, and grain, most of it the same
-/// in all channels.
+/// A pixel: the mean of sixteen places in it, the root of each channel as a display wants it, and grain, most of it the
+/// same in all channels.
 fn pixel(x: usize, y: usize, state: &mut u64) -> [u16; 3] {
     let place = |k: usize| [x as f64 + (k % 4) as f64 / 4.0 + 0.125, y as f64 + (k / 4) as f64 / 4.0 + 0.125];
     let sum = (0..16).map(|k| seen(place(k))).fold([0.0; 3], |sum, light| [0, 1, 2].map(|h| sum[h] + light[h]));

@@ -1,5 +1,5 @@
-//! Two pictures side by side as a PNG: `side_by_side LEFT.ppm RIGHT.pgm OUT.png`. The two must be equally high. Each pixel is
-//! shown as two by two, so that single ones can be seen.
+//! Two pictures side by side as a PNG: `side_by_side LEFT.ppm RIGHT.pgm OUT.png`. The two must be equally high. Each
+//! pixel is shown as two by two, so that single ones can be seen.
 
 mod pictures;
 

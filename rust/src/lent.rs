@@ -1,12 +1,12 @@
-//! The calls on tables that the caller lends, as the C header has them. [`SampleSet`](crate::SampleSet) owns its tables,
-//! and is simpler where that will do.
+//! The calls on tables that the caller lends, as the C header has them. [`SampleSet`](crate::SampleSet) owns its
+//! tables, and is simpler where that will do.
 //!
-//! A call takes both tables, of any lengths. Where nothing else writes them, tables are sound after a [`clear`] and after
-//! each call from then on. A refused call leaves tables and listing as they were; only [`load`] keeps the lines before the
-//! one that it refused.
+//! A call takes both tables, of any lengths. Where nothing else writes them, tables are sound after a [`clear`] and
+//! after each call from then on. A refused call leaves tables and listing as they were; only [`load`] keeps the lines
+//! before the one that it refused.
 //!
-//! [`add`], [`remove`], [`load`] and [`check`] look at every word of both tables, and need less than 80,000 bytes of stack;
-//! the queries less than 8,000. These are bounds on what was measured, and not proved.
+//! [`add`], [`remove`], [`load`] and [`check`] look at every word of both tables, and need less than 80,000 bytes of
+//! stack; the queries less than 8,000. These are bounds on what was measured, and not proved.
 
 use crate::answer::{Listed, Nearest};
 use crate::raw;
@@ -199,7 +199,8 @@ pub fn load(samples: &mut [u32], octants: &mut [u32], sheet: &[u8]) -> Result<u3
 /// # Errors
 /// The first of these that is so; the listing is as it was then:
 /// - [`Refusal::TooShort`] (1) where `samples` has fewer than 2 words or `octants` none;
-/// - [`Refusal::OutOfRange`] (9) where a channel of the centre is not in `0 <= v < 1`, or the radius not in `0 <= v < 2`;
+/// - [`Refusal::OutOfRange`] (9) where a channel of the centre is not in `0 <= v < 1`, or the radius not in
+///   `0 <= v < 2`;
 /// - [`Refusal::NoRoom`] (13) where the listing is shorter than all that is in the ball.
 ///
 /// ```
@@ -261,7 +262,8 @@ pub fn ball<'a>(
 /// # Errors
 /// The first of these that is so; the listing is as it was then:
 /// - [`Refusal::TooShort`] (1) where `samples` has fewer than 2 words or `octants` none;
-/// - [`Refusal::OutOfRange`] (9) where a channel of either colour is not in `0 <= v < 1`, or low is above high in one, as codes;
+/// - [`Refusal::OutOfRange`] (9) where a channel of either colour is not in `0 <= v < 1`, or low is above high in one,
+///   as codes;
 /// - [`Refusal::NoRoom`] (13) where the listing is shorter than all that is in the box.
 ///
 /// ```
@@ -324,7 +326,8 @@ pub fn box_<'a>(
 /// # Errors
 /// The first of these that is so:
 /// - [`Refusal::TooShort`] (1) where `samples` has fewer than 2 words or `octants` none;
-/// - [`Refusal::OutOfRange`] (9) where a channel of the centre is not in `0 <= v < 1`, or the radius not in `0 <= v < 2`.
+/// - [`Refusal::OutOfRange`] (9) where a channel of the centre is not in `0 <= v < 1`, or the radius not in
+///   `0 <= v < 2`.
 ///
 /// ```
 /// use hubeltxa::{lent, Nearest, Refusal};

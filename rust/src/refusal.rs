@@ -128,8 +128,8 @@ impl From<Refusal> for u32 {
 
 /// What a refused load gives: why, and how many lines were taken before it.
 ///
-/// Where any were taken, the same sheet again is refused at line 0, whose tag is known by then: go on with a sheet of the
-/// lines from [`line`](RefusedLoad::line) on, or clear the set and load anew.
+/// Where any were taken, the same sheet again is refused at line 0, whose tag is known by then: go on with a sheet of
+/// the lines from [`line`](RefusedLoad::line) on, or clear the set and load anew.
 ///
 /// ```
 /// use hubeltxa::{Refusal, RefusedLoad, SampleSet};

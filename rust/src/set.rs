@@ -27,15 +27,15 @@ pub struct Sample {
 ///
 /// Only the library's calls write the tables, so they are always sound: no method here gives
 /// [`TooShort`](Refusal::TooShort) or [`Unsound`](Refusal::Unsound). A query takes the listing as a `Vec`, which it
-/// lengthens where it has fewer words than the set has samples, so none gives [`NoRoom`](Refusal::NoRoom) either, and each
-/// is one pass. Lend the same `Vec` again and again: it is lengthened no more than the set grows.
+/// lengthens where it has fewer words than the set has samples, so none gives [`NoRoom`](Refusal::NoRoom) either, and
+/// each is one pass. Lend the same `Vec` again and again: it is lengthened no more than the set grows.
 ///
 /// Queries take `&self`, so several threads may ask one set at once. [`add`](SampleSet::add),
-/// [`remove`](SampleSet::remove) and [`load`](SampleSet::load) look at every word of both tables, and need less than 80,000
-/// bytes of stack (measured, not proved).
+/// [`remove`](SampleSet::remove) and [`load`](SampleSet::load) look at every word of both tables, and need less than
+/// 80,000 bytes of stack (measured, not proved).
 ///
-/// Two sets are equal where they have the same samples in the same sequence, bucket size, and rows; their tables are then
-/// the same, word by word.
+/// Two sets are equal where they have the same samples in the same sequence, bucket size, and rows; their tables are
+/// then the same, word by word.
 ///
 /// ```
 /// use hubeltxa::SampleSet;
@@ -61,9 +61,24 @@ pub struct SampleSet {
 
 impl SampleSet {
     /// The most samples that a set can hold.
+    ///
+    /// ```
+    /// use hubeltxa::SampleSet;
+    ///
+    /// assert_eq!(SampleSet::for_samples(1_000_000, 16)?.capacity(), SampleSet::MOST_SAMPLES);
+    /// # Ok::<(), hubeltxa::Refusal>(())
+    /// ```
     pub const MOST_SAMPLES: usize = 4_096;
 
     /// As many octants for each sample are always enough (proved).
+    ///
+    /// ```
+    /// use hubeltxa::SampleSet;
+    ///
+    /// let set = SampleSet::new(512, 512 * SampleSet::OCTANTS_PER_SAMPLE, 16)?;
+    /// assert_eq!(set, SampleSet::for_samples(512, 16)?);
+    /// # Ok::<(), hubeltxa::Refusal>(())
+    /// ```
     pub const OCTANTS_PER_SAMPLE: usize = 17;
 
     /// An empty set with room for so many samples and so many octants, and this bucket size.
@@ -295,14 +310,15 @@ impl SampleSet {
         lent::remove(&mut self.samples, &mut self.octants, tag)
     }
 
-    /// Adds the samples of a sheet's lines, line by line, up to the first line that is refused. Gives how many lines were
-    /// taken: all of them. The reel names are checked and not kept; [`name`](crate::name) finds them in the sheet.
+    /// Adds the samples of a sheet's lines, line by line, up to the first line that is refused. Gives how many lines
+    /// were taken: all of them. The reel names are checked and not kept; [`name`](crate::name) finds them in the sheet.
     ///
     /// # Errors
-    /// [`Refusal::Header`] (11) where the header is not good, or the sheet not as long as it says; nothing is taken then.
+    /// [`Refusal::Header`] (11) where the header is not good, or the sheet not as long as it says; nothing is taken
+    /// then.
     ///
-    /// Otherwise the first of these that is so of the first line that is refused; the lines before it stay in the set, and
-    /// `taken` is how many they are:
+    /// Otherwise the first of these that is so of the first line that is refused; the lines before it stay in the set,
+    /// and `taken` is how many they are:
     /// - [`Refusal::Line`] (12) where the line is not good;
     /// - [`Refusal::KnownTag`] (5) where a sample of the set, or of a line before it, has the tag;
     /// - [`Refusal::NoRow`] (6) where there is no room for another sample;
@@ -328,11 +344,12 @@ impl SampleSet {
 
     /// Lists the samples in a ball. The tags are written from the listing's first word on; the words after them stay.
     ///
-    /// Centre and radius are taken as codes, by the rule of [`codes`](crate::codes). A sample is in the ball where d² < r²:
-    /// d² is the sum of the three squared differences between its codes and the centre's, r the radius as a code.
+    /// Centre and radius are taken as codes, by the rule of [`codes`](crate::codes). A sample is in the ball where d² <
+    /// r²: d² is the sum of the three squared differences between its codes and the centre's, r the radius as a code.
     ///
     /// # Errors
-    /// [`Refusal::OutOfRange`] (9) where a channel of the centre is not in `0 <= v < 1`, or the radius not in `0 <= v < 2`.
+    /// [`Refusal::OutOfRange`] (9) where a channel of the centre is not in `0 <= v < 1`, or the radius not in
+    /// `0 <= v < 2`.
     ///
     /// ```
     /// use hubeltxa::{Listed, Refusal, SampleSet};
@@ -356,12 +373,12 @@ impl SampleSet {
 
     /// Lists the samples in a box. The tags are written from the listing's first word on; the words after them stay.
     ///
-    /// The low and the high colour are taken as codes, by the rule of [`codes`](crate::codes). A sample is in the box where
-    /// low <= code <= high in all three channels.
+    /// The low and the high colour are taken as codes, by the rule of [`codes`](crate::codes). A sample is in the box
+    /// where low <= code <= high in all three channels.
     ///
     /// # Errors
-    /// [`Refusal::OutOfRange`] (9) where a channel of either colour is not in `0 <= v < 1`, or low is above high in one, as
-    /// codes.
+    /// [`Refusal::OutOfRange`] (9) where a channel of either colour is not in `0 <= v < 1`, or low is above high in
+    /// one, as codes.
     ///
     /// ```
     /// use hubeltxa::{Refusal, SampleSet};
@@ -381,12 +398,13 @@ impl SampleSet {
         lent::box_(&self.samples, &self.octants, low, high, self.lengthened(listing))
     }
 
-    /// Finds the sample that is nearest to a centre, of those in the ball of this radius, or none where the ball holds none:
-    /// the least d² < r², as [`ball`](SampleSet::ball) has them, and the first in the order of the samples where several
-    /// have it.
+    /// Finds the sample that is nearest to a centre, of those in the ball of this radius, or none where the ball holds
+    /// none: the least d² < r², as [`ball`](SampleSet::ball) has them, and the first in the order of the samples where
+    /// several have it.
     ///
     /// # Errors
-    /// [`Refusal::OutOfRange`] (9) where a channel of the centre is not in `0 <= v < 1`, or the radius not in `0 <= v < 2`.
+    /// [`Refusal::OutOfRange`] (9) where a channel of the centre is not in `0 <= v < 1`, or the radius not in
+    /// `0 <= v < 2`.
     ///
     /// ```
     /// use hubeltxa::{Nearest, Refusal, SampleSet};

@@ -4,9 +4,26 @@ use crate::raw;
 use crate::refusal::{unless_refused, Refusal};
 
 /// The bytes of a sheet's header.
+///
+/// ```
+/// assert_eq!(b"SWATCHES     2\n".len(), hubeltxa::HEADER_LENGTH);
+/// ```
 pub const HEADER_LENGTH: usize = 15;
 
 /// The bytes of a sheet's line.
+///
+/// ```
+/// use hubeltxa::{HEADER_LENGTH, LINE_LENGTH};
+///
+/// let lines = 2;
+/// let mut sheet = format!("SWATCHES{lines:>6}\n").into_bytes();
+/// sheet.resize(HEADER_LENGTH + lines * LINE_LENGTH, 0);
+/// for (line, tag) in sheet[HEADER_LENGTH..].chunks_exact_mut(LINE_LENGTH).zip([7, 8]) {
+///     hubeltxa::write_line(tag, [0, 32_768, 65_535], b"A001", line)?;
+/// }
+/// assert_eq!(hubeltxa::name(&sheet, 8), b"A001");
+/// # Ok::<(), hubeltxa::Refusal>(())
+/// ```
 pub const LINE_LENGTH: usize = 62;
 
 /// Writes one line of a sheet, from tag, codes and reel name, over the first 62 bytes of `line`. The

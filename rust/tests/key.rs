@@ -1,8 +1,8 @@
-//! The examples that draw, key and show a picture, run as programs. Each matte is compared with the straight scan's, pixel
-//! by pixel, and `docs/key.png` with what they make, byte for byte.
+//! The examples that draw, key and show a picture, run as programs. Each matte is compared with the straight scan's,
+//! pixel by pixel, and `docs/key.png` with what they make, byte for byte.
 //!
-//! `cargo test` builds the examples; where this test is run alone, `cargo build --examples` must go before it, of the same
-//! profile.
+//! `cargo test` builds the examples; where this test is run alone, `cargo build --examples` must go before it, of the
+//! same profile.
 
 #[path = "../../oracle/straight_scan.rs"]
 #[allow(dead_code)]
@@ -31,7 +31,8 @@ fn folder(test: &str) -> PathBuf {
     folder
 }
 
-/// Runs an example in a folder. Gives what it says on standard output where it ends well, and on standard error where not.
+/// Runs an example in a folder. Gives what it says on standard output where it ends well, and on standard error where
+/// not.
 fn run(folder: &Path, example: &str, arguments: &[&str]) -> Result<String, String> {
     let test = std::env::current_exe().unwrap();
     let program = test.parent().unwrap().parent().unwrap().join("examples").join(example);
@@ -146,7 +147,11 @@ fn the_picture_in_docs() {
     assert!(fs::read(folder.join("key.png")).unwrap() == kept, "docs/key.png is not what the examples make");
 }
 
-/// Pictures of every depth, with pixels picked twice, and radii from none to all.
+/// A radius that holds the very colour alone.
+const ONE_CODE: &str = "0.0000152587890625";
+
+/// Pictures of every depth, with pixels picked twice, and radii from none to all; and with a sheet of all their
+/// colours.
 #[test]
 fn pictures_of_every_depth() {
     let folder = folder("depths");
@@ -163,6 +168,10 @@ fn pictures_of_every_depth() {
             let arguments = picking("picture.ppm", &picks, radius, "matte.pgm");
             whites.push(compare(&folder, &arguments, &picture, &samples, radius));
         }
+        let own: Vec<Sample> = (0..).zip(picture.concat()).map(|(tag, codes)| Sample { tag, codes }).collect();
+        fs::write(folder.join("own.txt"), sheet(&own)).unwrap();
+        let white = compare(&folder, &["picture.ppm", "own.txt", ONE_CODE, "matte.pgm"], &picture, &own, ONE_CODE);
+        assert_eq!(white, own.len(), "a pixel's colour, of {maximum}, is not the code that it should be");
     }
     for (radius, expected) in [(0, 0), (4, 9 * 14)] {
         assert!(whites.iter().skip(radius).step_by(5).all(|&white| white == expected), "{whites:?}");

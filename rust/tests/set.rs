@@ -1,5 +1,5 @@
-//! The set that owns its tables, compared with the straight scan: random sequences of all seven calls, every answer with
-//! the whole listing, every word of both tables, and all else that the set says of itself.
+//! The set that owns its tables, compared with the straight scan: random sequences of all seven calls, every answer
+//! with the whole listing, every word of both tables, and all else that the set says of itself.
 //!
 //! `cargo test --release` takes some seconds. Each test prints how many calls it compared, by call and number, which
 //! `--show-output` shows.
@@ -103,8 +103,8 @@ fn change(set: &mut SampleSet, call: &Call) -> Answer {
     Answer { number, taken, ..Answer::default() }
 }
 
-/// Rows and octant rows of each kind: that suffice, sample rows that run out, octant rows that run out, both of a set just
-/// so, and one row or none.
+/// Rows and octant rows of each kind: that suffice, sample rows that run out, octant rows that run out, both of a set
+/// just so, and one row or none.
 fn any_rows(kind: usize, colours: &[Codes], bucket: u32, state: &mut u64) -> (usize, usize) {
     match kind {
         0 => (200, 17 * 200),

@@ -1,6 +1,6 @@
-//! PNG written: eight bits for each of red, green and blue. A row is filtered by what leaves the smallest numbers. What is
-//! left is deflated in one block, of literals and of runs of one byte, with Huffman codes of its own: a small part of what
-//! deflate can do, which is enough for pictures with grain and for mattes.
+//! PNG written: eight bits for each of red, green and blue. A row is filtered in the way, of three, that leaves the
+//! smallest numbers. What is left is deflated in one block, of literals and of runs of one byte, with Huffman codes of
+//! its own: a small part of what deflate can do, which is enough for pictures with grain and for mattes.
 
 /// The file of a picture of so many pixels in a row, from rows of red, green and blue.
 pub fn write(width: usize, rows: &[Vec<u8>]) -> Vec<u8> {
@@ -38,24 +38,22 @@ fn filtered(rows: &[Vec<u8>]) -> Vec<u8> {
     let mut above = vec![0; rows.first().map_or(0, Vec::len)];
     let mut all = vec![];
     for row in rows {
-        let by_each = (0..5).map(|filter| differences(filter, row, &above));
+        let by_each = [1, 2, 4].map(|filter| differences(filter, row, &above));
         let size = |line: &Vec<u8>| line[1..].iter().map(|&byte| (byte as i8).unsigned_abs() as usize).sum::<usize>();
-        all.extend(by_each.min_by_key(size).unwrap());
+        all.extend(by_each.into_iter().min_by_key(size).unwrap());
         above.clone_from(row);
     }
     all
 }
 
-/// The filters expect 0, the byte on the left, the one above, their mean, and the nearest of three to left + above - corner.
+/// Filter 1 expects the byte on the left, 2 the one above, and 4 the nearest to left + above - corner of the three.
 fn differences(filter: u8, row: &[u8], above: &[u8]) -> Vec<u8> {
     let expected = |i: usize| {
         let before = |bytes: &[u8]| i.checked_sub(3).map_or(0, |i| bytes[i] as i32);
         let (left, up, corner) = (before(row), above[i] as i32, before(above));
         match filter {
-            0 => 0,
             1 => left,
             2 => up,
-            3 => (left + up) / 2,
             _ => [left, up, corner].into_iter().min_by_key(|value| (left + up - corner - value).abs()).unwrap(),
         }
     };

@@ -58,8 +58,8 @@ pub fn through_c(samples: &[u32], octants: &[u32], query: &Gesture, lent: &[u32]
     Answer { number, listed: one, entered: two, measured: three, listing, ..Answer::default() }
 }
 
-/// The answer that the wrapper gives of a ball or a box: its reports and the whole listing as left, of which the tags are
-/// the first part.
+/// The answer that the wrapper gives of a ball or a box: its reports and the whole listing as left, of which the tags
+/// are the first part.
 pub fn listed(
     mut listing: Vec<u32>,
     ask: impl for<'a> FnOnce(&'a mut Vec<u32>) -> Result<Listed<'a>, Refusal>,
@@ -154,8 +154,8 @@ fn safe(tables: &Tables, query: &Gesture, lent: &[u32], given: &Answer) -> bool 
 }
 
 impl Compared {
-    /// The one comparison of queries: each goes through it. On tables that are sound, or too short, the library's and the
-    /// wrapper's answers and every word of the listing are the straight scan's; on others they are safe.
+    /// The one comparison of queries: each goes through it. On tables that are sound, or too short, the library's and
+    /// the wrapper's answers and every word of the listing are the straight scan's; on others they are safe.
     pub fn query(&mut self, tables: &Tables, query: &Gesture, lent: &[u32]) -> Answer {
         let message = || {
             let words = shown(&tables.samples, &tables.octants);
@@ -181,10 +181,10 @@ impl Compared {
         given
     }
 
-    /// A query with a listing that is longer than the samples; then, where it is good, with listings that are as long as
-    /// the samples, and just as long as what is listed, and with shorter ones, which give 13. That all say the same is
-    /// asked on tables that are not sound too, where one pass must find what two find. Nearest has no listing, and is
-    /// asked once.
+    /// A query with a listing that is longer than the samples; then, where it is good, with listings that are as long
+    /// as the samples, and just as long as what is listed, and with shorter ones, which give 13. That all say the same
+    /// is asked on tables that are not sound too, where one pass must find what two find. Nearest has no listing, and
+    /// is asked once.
     pub fn query_at_lengths(&mut self, tables: &Tables, query: &Gesture) -> Answer {
         let long = self.query(tables, query, &listing(tables.samples.len()));
         if long.number != 0 || matches!(query, Gesture::Near { .. }) {
