@@ -8,6 +8,9 @@ use std::fmt::{self, Display, Formatter};
 /// A refused call leaves tables, listings and bytes as they were; only a load that is refused at a line keeps the
 /// lines before it: see [`RefusedLoad`].
 ///
+/// The library is proved to give no number but 0 and these. A call of this crate panics on any other, which only another
+/// archive than the one it is for could give.
+///
 /// ```
 /// use hubeltxa::Refusal;
 ///
@@ -88,8 +91,7 @@ impl Refusal {
         self as u32
     }
 
-    /// The refusal that a number is. The library is proved to give no other than these and 0; one that does is not the
-    /// library that this crate is for, and there is no going on with it.
+    /// The refusal that a number is.
     fn of_number(number: u32) -> Refusal {
         let case = Refusal::ALL.iter().find(|refusal| refusal.number() == number);
         *case.unwrap_or_else(|| panic!("the linked libhubeltxa.a gave {number}, which is no number of a refusal"))
