@@ -89,7 +89,7 @@ fn key(arguments: &[&str]) -> Result<(), String> {
     let matte = matte(&picture, &set, radius).map_err(refused(radius_text))?;
     write_file(out, &pnm::write(&matte))?;
     let white = matte.values.iter().filter(|&&value| value > 0).count();
-    println!("{white} of {} pixels are keyed by {} samples", matte.values.len(), set.len());
+    println!("{white} of {} pixels keyed, number of samples: {}", matte.values.len(), set.len());
     Ok(())
 }
 

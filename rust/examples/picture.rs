@@ -119,17 +119,18 @@ fn features(skin: Light, [x, y]: Place) -> Light {
     };
     for side in [-1.0, 1.0] {
         let at = 96.0 + 8.6 * side;
-        touch(Ellipse::new(at, 46.5, 6.2, 4.4), skin.map(|light| light * 0.62), 0.8);
-        touch(Ellipse::new(at, 47.0, 3.7, 1.7), [0.52, 0.50, 0.47].map(|v| v * (0.75 - 0.25 * side)), 0.95);
-        touch(Ellipse::new(at + 0.3, 46.8, 1.6, 1.6), [0.04, 0.05, 0.05], 1.0);
-        touch(Ellipse::new(at, 40.6, 6.0, 1.5), [0.06, 0.035, 0.025], 0.85);
+        touch(Ellipse::new(at, 46.5, 6.2, 4.4), skin.map(|light| light * 0.62), 0.8); // socket
+        touch(Ellipse::new(at, 47.0, 3.7, 1.7), [0.52, 0.50, 0.47].map(|v| v * (0.75 - 0.25 * side)), 0.95); // white
+        touch(Ellipse::new(at + 0.3, 46.8, 1.6, 1.6), [0.04, 0.05, 0.05], 1.0); // iris
+        touch(Ellipse::new(at, 40.6, 6.0, 1.5), [0.06, 0.035, 0.025], 0.85); // brow
         touch(Ellipse::new(96.0 + 2.6 * side, 58.6, 1.5, 1.1), skin.map(|light| light * 0.4), 0.8);
+        // nostril
     }
-    touch(Ellipse::new(99.2, 52.0, 2.6, 8.0), skin.map(|light| light * 0.66), 0.7);
-    touch(Ellipse::new(95.0, 52.5, 1.9, 7.0), skin.map(|light| light * 1.22), 0.7);
-    touch(Ellipse::new(96.2, 65.5, 7.0, 2.6), [skin[0] * 0.72, skin[1] * 0.48, skin[2] * 0.50], 0.9);
-    touch(Ellipse::new(96.2, 65.3, 6.4, 0.8), skin.map(|light| light * 0.35), 0.8);
-    touch(Ellipse::new(96.4, 70.2, 5.0, 1.6), skin.map(|light| light * 0.7), 0.6);
+    touch(Ellipse::new(99.2, 52.0, 2.6, 8.0), skin.map(|light| light * 0.66), 0.7); // nose, in the shade
+    touch(Ellipse::new(95.0, 52.5, 1.9, 7.0), skin.map(|light| light * 1.22), 0.7); // and in the light
+    touch(Ellipse::new(96.2, 65.5, 7.0, 2.6), [skin[0] * 0.72, skin[1] * 0.48, skin[2] * 0.50], 0.9); // lips
+    touch(Ellipse::new(96.2, 65.3, 6.4, 0.8), skin.map(|light| light * 0.35), 0.8); // between them
+    touch(Ellipse::new(96.4, 70.2, 5.0, 1.6), skin.map(|light| light * 0.7), 0.6); // above the chin
     seen
 }
 

@@ -112,7 +112,7 @@ fn compare(folder: &Path, arguments: &[impl AsRef<str>], picture: &Colours, samp
     let (matte, white) = scanned(picture, samples, radius.parse().unwrap());
     assert!(fs::read(folder.join("matte.pgm")).unwrap() == matte, "the matte is another than the straight scan's");
     let pixels = picture.len() * picture[0].len();
-    assert_eq!(said, format!("{white} of {pixels} pixels are keyed by {} samples\n", samples.len()));
+    assert_eq!(said, format!("{white} of {pixels} pixels keyed, number of samples: {}\n", samples.len()));
     white
 }
 
