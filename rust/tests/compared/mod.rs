@@ -3,6 +3,7 @@
 
 #![allow(dead_code)]
 
+pub mod check;
 pub mod query;
 
 use crate::lent::Lent;
@@ -187,6 +188,9 @@ fn message(tables: &Tables, call: &Call) -> String {
     format!("{call} on {}", shown(&tables.samples, &tables.octants))
 }
 
+/// A call, the numbers that it can give, and how often it gave each.
+pub type Row = (&'static str, &'static [usize], [usize; 14]);
+
 /// Calls that were compared, by call and number.
 #[derive(Default)]
 pub struct Compared([[usize; 14]; CALLS.len()]);
@@ -220,6 +224,11 @@ impl Compared {
     /// A load of a sheet on tables that stay.
     pub fn load(&mut self, tables: &Tables, sheet: Vec<u8>) -> Answer {
         self.ask(tables, &Call::Load(sheet))
+    }
+
+    /// Each call, the numbers that it can give, and how often it gave each.
+    pub fn rows(&self) -> impl Iterator<Item = Row> + '_ {
+        CALLS.iter().zip(self.0).map(|(&(name, numbers), counts)| (name, numbers, counts))
     }
 
     /// Prints how many calls were compared.

@@ -2,6 +2,8 @@
 
 #![allow(dead_code)]
 
+pub mod edits;
+
 use std::fmt::Display;
 
 /// A line with these in its columns.

@@ -1,0 +1,112 @@
+//! What calls are given, at random: good, at the edges, and damaged.
+
+use super::step::{floats_of, Step};
+use crate::asked::{bad_radii, float, with_float};
+use crate::calls::{any_sheet, known_tag, new_tag, LONG_NAME};
+use crate::days::any_pick;
+use crate::lines::edits::{edited, tags_in};
+use crate::plain::colour;
+use crate::random::*;
+use crate::straight_scan::{Bin, Call, Codes, Gesture};
+
+/// A code; of sixteen, one that may be out of range.
+fn any_code(state: &mut u64) -> u32 {
+    match below(16, state) {
+        0 => any_of(&[65_536, 65_537, 99_999, 100_000, 1 << 31, u32::MAX, random(state) as u32], state),
+        1..=3 => any_of(&[0, 1, 9, 10, 9_999, 10_000, 32_767, 32_768, 65_534, 65_535], state),
+        _ => below(65_536, state) as u32,
+    }
+}
+
+fn any_codes(state: &mut u64) -> Codes {
+    [0; 3].map(|_: u32| any_code(state))
+}
+
+/// The bits of a float: most of them of a good channel, of which many are a code's or next to one.
+fn any_bits(state: &mut u64) -> u32 {
+    match below(16, state) {
+        0 => random(state) as u32,
+        1 => any_of(&colour::boundaries(), state).wrapping_add(below(3, state) as u32).wrapping_sub(1),
+        2..=7 => float(below(65_536, state) as u32).to_bits().wrapping_add(below(3, state) as u32).wrapping_sub(1),
+        _ => random(state) as u32 % 0x3F80_0000,
+    }
+}
+
+pub fn any_colour(state: &mut u64) -> Step {
+    Step::Colour(match below(2, state) {
+        0 => colour::Call::Codes([0; 3].map(|_: u32| any_bits(state))),
+        _ => colour::Call::Floats(any_codes(state)),
+    })
+}
+
+/// A name; of eight, one that is too long, and one with any byte in some place. A name may have no bytes.
+fn any_name(state: &mut u64) -> Vec<u8> {
+    let length = any_of(&[0, 1, 2, 4, 4, 4, 4, 9, 31, 32], state);
+    let mut name: Vec<u8> = (0..length).map(|_| 33 + below(94, state) as u8).collect();
+    match below(8, state) {
+        0 => name.resize(33 + below(40, state), b'!'),
+        1 if length > 0 => name[below(length, state)] = random(state) as u8,
+        2 => name = LONG_NAME.into(),
+        _ => {}
+    }
+    name
+}
+
+pub fn any_line(set: &Bin, state: &mut u64) -> Step {
+    let lent = match below(8, state) {
+        0 => below(62, state),
+        1 => 61,
+        2 => 62 + below(80, state),
+        _ => 62,
+    };
+    Step::Line { tag: new_tag(set, state), codes: any_codes(state), name: any_name(state), lent }
+}
+
+/// A sheet of the kind that is loaded; of three, one with a few edits more.
+fn any_text(set: &Bin, colours: &[Codes], most_lines: usize, state: &mut u64) -> Vec<u8> {
+    let sheet = any_sheet(set, colours, most_lines, state);
+    match below(3, state) {
+        0 => edited(sheet, state),
+        _ => sheet,
+    }
+}
+
+/// A lookup; of four, one for a tag that may be in no line.
+pub fn any_lookup(set: &Bin, colours: &[Codes], most_lines: usize, state: &mut u64) -> Step {
+    let sheet = any_text(set, colours, most_lines, state);
+    let tags = tags_in(&sheet);
+    let tag = if tags.is_empty() || below(4, state) == 0 { known_tag(set, state) } else { any_of(&tags, state) };
+    Step::Name { sheet, tag }
+}
+
+pub fn any_load(set: &Bin, colours: &[Codes], most_lines: usize, state: &mut u64) -> Step {
+    Step::Change(Call::Load(any_text(set, colours, most_lines, state)))
+}
+
+/// The query with one float next to what it was, or any float; a box with its corners exchanged in a channel.
+fn altered(mut query: Gesture, state: &mut u64) -> Gesture {
+    let floats = floats_of(&query);
+    let at = below(floats.len(), state);
+    match (below(4, state), &mut query) {
+        (0, _) => with_float(&query, at, f32::from_bits(any_bits(state))),
+        (1, _) => with_float(&query, at, any_of(&bad_radii(), state)),
+        (2, Gesture::Box { low, high }) => {
+            std::mem::swap(&mut low[at % 3], &mut high[at % 3]);
+            query
+        }
+        _ => {
+            let step = any_of(&[1, u32::MAX], state);
+            with_float(&query, at, f32::from_bits(floats[at].to_bits().wrapping_add(step)))
+        }
+    }
+}
+
+/// A query aimed at a sample table; of four, one that is altered.
+pub fn any_query(samples: &[u32], state: &mut u64) -> (Gesture, Vec<u32>) {
+    let rows = samples.first().map_or(0, |&count| (count as usize).min(samples.len() / 5));
+    let Call::Pick(query, lent) = any_pick(samples, rows, state) else { unreachable!() };
+    match below(4, state) {
+        0 => (altered(query, state), lent),
+        _ => (query, lent),
+    }
+}

@@ -1,0 +1,73 @@
+//! Which rounds are wanted: the fixed share of the gate, as many as some seconds allow, or one alone.
+
+use crate::random::random;
+use std::fmt::Display;
+use std::str::FromStr;
+use std::time::{Duration, SystemTime};
+
+/// The seed and the rounds of the gate. As many rounds with any other seed should see every number too.
+const FIXED_SEED: u64 = 1;
+pub const FIXED_ROUNDS: u64 = 2_500;
+
+#[derive(Clone, Copy)]
+pub enum Rounds {
+    Fixed,
+    For(Duration),
+    One(u64),
+}
+
+#[derive(Clone, Copy)]
+pub struct Wanted {
+    pub seed: u64,
+    pub rounds: Rounds,
+}
+
+/// A number in the environment; none where the variable is not there, or empty.
+fn number<T: FromStr<Err: Display>>(name: &str) -> Option<T> {
+    let text = std::env::var(name).unwrap_or_default();
+    let refuse = |why| panic!("{name} is {text:?}: {why}");
+    (!text.is_empty()).then(|| text.parse().unwrap_or_else(refuse))
+}
+
+/// A seed that is another each time, and short.
+fn new_seed() -> u64 {
+    let now = SystemTime::now().duration_since(SystemTime::UNIX_EPOCH).unwrap();
+    random(&mut (now.as_nanos() as u64)) % 1_000_000_000
+}
+
+impl Wanted {
+    /// By FUZZ_SECONDS, FUZZ_SEED and FUZZ_ROUND, which `make fuzz` sets: a round alone, or some seconds, or the fixed
+    /// share where neither is given. Only a run of some seconds without a seed is another each time.
+    pub fn from_environment() -> Self {
+        let rounds = match (number("FUZZ_ROUND"), number("FUZZ_SECONDS")) {
+            (Some(round), _) => Rounds::One(round),
+            (None, Some(seconds)) => Rounds::For(Duration::from_secs(seconds)),
+            (None, None) => Rounds::Fixed,
+        };
+        let seed = number("FUZZ_SEED").unwrap_or_else(|| match rounds {
+            Rounds::For(_) => new_seed(),
+            _ => FIXED_SEED,
+        });
+        Wanted { seed, rounds }
+    }
+
+    /// The seed of a round by itself.
+    pub fn seed_of(&self, round: u64) -> u64 {
+        let mut state = self.seed;
+        random(&mut (random(&mut state) ^ round))
+    }
+
+    /// The rounds to go through, where time does not end them.
+    pub fn range(&self) -> std::ops::Range<u64> {
+        match self.rounds {
+            Rounds::Fixed => 0..FIXED_ROUNDS,
+            Rounds::For(_) => 0..u64::MAX,
+            Rounds::One(round) => round..round + 1,
+        }
+    }
+
+    /// What makes a round again.
+    pub fn command(&self, round: u64) -> String {
+        format!("make fuzz SEED={} ROUND={round}", self.seed)
+    }
+}
