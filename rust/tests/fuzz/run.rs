@@ -101,7 +101,7 @@ fn show_failure(wanted: Wanted, now: &Now) {
 pub fn run(wanted: Wanted) -> Option<Passed> {
     let (now, start, (end, ended)) = (Arc::new(Now::default()), Instant::now(), channel());
     let theirs = Arc::clone(&now);
-    std::thread::spawn(move || end.send(rounds(wanted, start, &theirs)));
+    std::thread::spawn(move || _ = end.send(rounds(wanted, start, &theirs)));
     let result = watch(wanted, start, &now, ended);
     if stdout().is_terminal() {
         println!();
