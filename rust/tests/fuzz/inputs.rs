@@ -9,11 +9,17 @@ use crate::plain::colour;
 use crate::random::*;
 use crate::straight_scan::{Bin, Call, Codes, Gesture};
 
+/// Codes at the ends, where they get a digit more, and in the middle.
+const EDGES: [u32; 12] = [0, 1, 9, 10, 9_999, 10_000, 16_383, 16_384, 32_767, 32_768, 65_534, 65_535];
+
+/// Floats where a code starts, or what is good ends: minus zero, a code of 1, channels and radii past the last.
+const FLOAT_EDGES: [u32; 7] = [0, 0x8000_0000, 0x3780_0000, 0x3F00_0000, 0x3F80_0000, 0x4000_0000, 0x7F80_0000];
+
 /// A code; of sixteen, one that may be out of range.
 fn any_code(state: &mut u64) -> u32 {
     match below(16, state) {
         0 => any_of(&[65_536, 65_537, 99_999, 100_000, 1 << 31, u32::MAX, random(state) as u32], state),
-        1..=3 => any_of(&[0, 1, 9, 10, 9_999, 10_000, 32_767, 32_768, 65_534, 65_535], state),
+        1..=3 => any_of(&EDGES, state),
         _ => below(65_536, state) as u32,
     }
 }
@@ -22,14 +28,17 @@ fn any_codes(state: &mut u64) -> Codes {
     [0; 3].map(|_: u32| any_code(state))
 }
 
-/// The bits of a float: most of them of a good channel, of which many are a code's or next to one.
+/// The bits of a float, or of the one before or after it: most of them of a good channel, of which many are a code's.
 fn any_bits(state: &mut u64) -> u32 {
-    match below(16, state) {
+    let bits = match below(16, state) {
         0 => random(state) as u32,
-        1 => any_of(&colour::boundaries(), state).wrapping_add(below(3, state) as u32).wrapping_sub(1),
-        2..=7 => float(below(65_536, state) as u32).to_bits().wrapping_add(below(3, state) as u32).wrapping_sub(1),
+        1 => any_of(&colour::boundaries(), state),
+        2 => any_of(&FLOAT_EDGES, state),
+        3..=4 => float(any_of(&EDGES, state)).to_bits(),
+        5..=8 => float(below(65_536, state) as u32).to_bits(),
         _ => random(state) as u32 % 0x3F80_0000,
-    }
+    };
+    any_of(&[bits, bits.wrapping_add(1), bits.wrapping_sub(1)], state)
 }
 
 pub fn any_colour(state: &mut u64) -> Step {

@@ -81,7 +81,7 @@ impl Step {
                 format!("{query:?}, by bits {bits}, with a listing of {} words, {}", lent.len(), on_tables())
             }
             Step::Check => format!("check {}", on_tables()),
-            Step::Colour(call) => format!("{call:#x?}"),
+            Step::Colour(call) => format!("{call:x?}, by bits"),
             Step::Line { tag, codes, name, lent } => {
                 format!("line of {:?}", sheet::Call::Line { tag: *tag, codes: *codes, name, lent: *lent })
             }

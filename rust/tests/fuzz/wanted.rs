@@ -7,7 +7,7 @@ use std::time::{Duration, SystemTime};
 
 /// The seed and the rounds of the gate. As many rounds with any other seed should see every number too.
 const FIXED_SEED: u64 = 1;
-pub const FIXED_ROUNDS: u64 = 2_500;
+pub const FIXED_ROUNDS: u64 = 3_500;
 
 #[derive(Clone, Copy)]
 pub enum Rounds {
