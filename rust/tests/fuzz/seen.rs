@@ -50,18 +50,20 @@ impl Seen {
 
     /// A row for each call, a column for each number. A number that a call cannot give is left blank.
     pub fn table(&self) -> String {
-        let heads: String = (0..14).map(|number| format!("{number:>8}")).collect();
-        let mut text = format!("{:<20}{heads}\n", "call");
-        for (name, numbers, counts) in self.rows() {
-            let cell = |number: usize| match counts[number] {
-                0 if !numbers.contains(&number) => " ".repeat(8),
-                count => format!("{count:>8}"),
-            };
-            let cells: String = (0..14).map(cell).collect();
-            text += &format!("{}\n", format!("{name:<20}{cells}").trim_end());
-        }
-        let totals: String = self.totals().iter().map(|count| format!("{count:>8}")).collect();
-        text + &format!("{:<20}{totals}\n", "all")
+        let totals = self.totals();
+        let width = totals.iter().max().unwrap().to_string().len() + 2;
+        let row = |name: &str, cells: [String; 14]| {
+            let cells: String = cells.iter().map(|cell| format!("{cell:>width$}")).collect();
+            format!("{}\n", format!("{name:<20}{cells}").trim_end())
+        };
+        let counted = |(name, numbers, counts): Row| {
+            let blank = |number: usize| counts[number] == 0 && !numbers.contains(&number);
+            let cell = |number| if blank(number) { String::new() } else { counts[number].to_string() };
+            row(name, std::array::from_fn(cell))
+        };
+        let calls: String = self.rows().map(counted).collect();
+        let heads = row("call", std::array::from_fn(|number| number.to_string()));
+        heads + &calls + &row("all", totals.map(|count| count.to_string()))
     }
 
     /// What was to be seen and was not: a number of a call that can give it, or one from 1 to 13 of any call.
