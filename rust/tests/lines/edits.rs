@@ -46,7 +46,7 @@ pub fn edit(sheet: &mut Vec<u8>, state: &mut u64) {
     }
 }
 
-/// Up to three edits, and of four sheets three with a header that says how many lines there then are.
+/// One to three edits, and of four sheets three with a header that says how many lines there then are.
 pub fn edited(mut sheet: Vec<u8>, state: &mut u64) -> Vec<u8> {
     (0..=below(3, state)).for_each(|_| edit(&mut sheet, state));
     if below(4, state) > 0 {
