@@ -1,14 +1,14 @@
 //! Random days of all twelve calls, with damage between them and damaged inputs, compared with the straight scan for as
 //! long as asked: `make fuzz SECONDS=600`, and `make fuzz SECONDS=600 SEED=7` for the same rounds again.
 //!
-//! A round is one day on one pair of tables, which hold any words at first. Every answer, every word of both tables and
-//! of each listing, and what stands beside all that is lent are compared after each call. On tables that are not sound
-//! the straight scan says so, and what is promised of such tables is asked. Calls on tables go through C and through
-//! the wrapper, the others through C.
+//! A round is one day on one pair of tables, which hold any words at first, or those of a set. Every answer, every
+//! word of both tables and of each listing, and what stands beside all that is lent are compared after each call. The
+//! straight scan says whether damaged tables are sound; where not, what is promised of such tables is asked. Calls that
+//! change tables, and queries, go through C and through the wrapper, the others through C.
 //!
 //! The seed is printed first. A round depends on the seed and on its own number alone: one that fails prints the call
 //! in full, and a command that runs that round by itself. (Where the process itself is ended by a call, the same seed
-//! leads there again.) The last that is printed is a table of the calls and of the numbers that they gave.
+//! leads there again.) At the end stands a table of the calls and of the numbers that they gave.
 //!
 //! `cargo test` goes through a fixed share. It fails where a number was not seen of a call that can give it, and so
 //! does a run of some seconds that went through as many rounds.

@@ -1,9 +1,9 @@
-//! The program walklist, as it is built, compared with the straight scan: what it prints for what stands on its standard
-//! input, and that it ends with status 0.
+//! The program walklist, as it is built, compared with the straight scan: what it prints for what stands on its
+//! standard input, and that it ends with status 0.
 //!
-//! It is the file that the environment variable `WALKLIST` names, or else `DEFAULT`. The test takes some seconds, and
-//! prints how many runs gave each number, which `--show-output` shows. The ignored one goes through more sheets:
-//! `make test-long`, or `cargo test --release --test walklist -- --ignored`.
+//! It is the file that the environment variable `WALKLIST` names, or else `DEFAULT`. The test prints how many runs
+//! gave each number, which `--show-output` shows. The ignored one goes through more sheets: `make test-long`, or
+//! `cargo test --release --test walklist -- --ignored`.
 
 #[path = "../../oracle/straight_scan.rs"]
 #[allow(dead_code)]
@@ -36,12 +36,13 @@ const DEFAULT: &str = "../target/bin/walklist";
 /// What the program reads at most, in bytes.
 const MOST_READ: usize = 32_768;
 
-/// The sample rows and the octant rows that it has, and the most lines of a sheet that it reads whole: 15 + 62 * 528 is 32,751.
+/// The sample rows and the octant rows that it has, and the most lines of a sheet that it reads whole: 15 + 62 * 528
+/// is 32,751.
 const ROWS: usize = 512;
 const OCTANTS: usize = 1_489;
 const MOST_LINES: usize = 528;
 
-/// A run takes a millisecond or two, one that gets its input in pieces some tenths of a second.
+/// No run should take nearly as long.
 const LONGEST: Duration = Duration::from_secs(20);
 
 fn program() -> PathBuf {
@@ -352,6 +353,6 @@ fn as_the_straight_scan_long() {
     (10..40).for_each(|seed| octants_just_so(&mut compared, seed));
     refused_at(&mut compared, MOST_LINES, 1, 4);
     bytes_changed(&mut compared, &example(), &(0..=255).collect::<Vec<u8>>());
-    random_sheets(&mut compared, 50_000, 2);
+    random_sheets(&mut compared, 20_000, 2);
     compared.print_all_seen("walklist, long");
 }

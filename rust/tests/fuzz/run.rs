@@ -12,7 +12,7 @@ use std::sync::mpsc::{channel, Receiver, RecvTimeoutError};
 use std::sync::{Arc, Mutex};
 use std::time::{Duration, Instant};
 
-/// A round takes milliseconds, one on a large set some seconds at most.
+/// No round should take nearly as long: all of the gate's together take some seconds.
 const LONGEST_ROUND: Duration = Duration::from_secs(120);
 
 /// Where the rounds are.
