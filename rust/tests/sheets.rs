@@ -9,73 +9,19 @@ mod straight_scan;
 
 mod lent;
 mod lines;
+mod plain;
 mod random;
 
-use hubeltxa::{raw, HEADER_LENGTH as HEADER, LINE_LENGTH as LINE};
-use lent::{Lendable, Lent};
+use hubeltxa::{HEADER_LENGTH as HEADER, LINE_LENGTH as LINE};
+use lent::Lendable;
+use lines::edits::{edited, recount, tags_in};
 use lines::*;
+use plain::sheet::*;
 use random::{any_of, below, random};
-use std::ops::Range;
 use straight_scan::Sample;
 
 /// A good line that stands in no sheet.
 const GUARD: &[u8] = u8::GUARD;
-
-/// A call with its arguments. A line is written over a buffer of `lent` bytes.
-#[derive(Clone, Copy)]
-enum Call<'a> {
-    Line { tag: u32, codes: [u32; 3], name: &'a [u8], lent: usize },
-    Name { sheet: &'a [u8], tag: u32 },
-}
-
-impl std::fmt::Debug for Call<'_> {
-    fn fmt(&self, f: &mut std::fmt::Formatter) -> std::fmt::Result {
-        match self {
-            Call::Line { tag, codes, name, lent } => {
-                write!(f, "{tag} {codes:?} \"{}\" over {lent} bytes", name.escape_ascii())
-            }
-            Call::Name { sheet, tag } => write!(f, "{tag} in \"{}\"", sheet.escape_ascii()),
-        }
-    }
-}
-
-/// What a call gives: its number and the whole buffer as left, or where in the sheet the name stands.
-#[derive(Debug, PartialEq, Eq)]
-enum Answer {
-    Line(u32, Vec<u8>),
-    Name(Range<usize>),
-}
-
-/// A buffer for a line. It holds no byte that a line could have, so every byte that is written shows.
-fn buffer(lent: usize) -> Vec<u8> {
-    (0..lent).map(|i| 128 + (i % 128) as u8).collect()
-}
-
-/// The C function, on guarded bytes, and on words that hold something else and have neighbours.
-fn library(call: Call) -> Answer {
-    match call {
-        Call::Line { tag, codes: [red, green, blue], name, lent } => {
-            let (mut text, mut line) = (Lent::new(name), Lent::new(&buffer(lent)));
-            let (n, l) = (text.within(), line.within());
-            let number = unsafe { raw::hbx_line(tag, red, green, blue, n.as_ptr(), n.len(), l.as_mut_ptr(), l.len()) };
-            assert_eq!(text.left(), Some(name), "{call:?} changed the name or what is beside it");
-            let left = line.left().unwrap_or_else(|| panic!("{call:?} wrote elsewhere"));
-            Answer::Line(number, left.to_vec())
-        }
-        Call::Name { sheet, tag } => {
-            const HELD: usize = 0xA5A5_A5A5_A5A5_A5A5;
-            let mut words = [HELD; 5];
-            let [n0, start, n1, length, n2] = &mut words;
-            let mut text = Lent::new(sheet);
-            let s = text.within();
-            unsafe { raw::hbx_name(s.as_ptr(), s.len(), tag, start, length) };
-            assert_eq!([*n0, *n1, *n2], [HELD; 3], "{call:?} wrote elsewhere");
-            assert!(text.left() == Some(sheet), "{call:?} changed the sheet or what is beside it");
-            assert!(*length > 0 || *start == 0, "{call:?} gives an empty part at {start}");
-            Answer::Name(*start..*start + *length)
-        }
-    }
-}
 
 fn wrapper(call: Call) -> Answer {
     match call {
@@ -90,16 +36,6 @@ fn wrapper(call: Call) -> Answer {
             let start = (found.as_ptr() as usize).wrapping_sub(sheet.as_ptr() as usize);
             Answer::Name(start..start.wrapping_add(found.len()))
         }
-    }
-}
-
-fn oracle(call: Call) -> Answer {
-    match call {
-        Call::Line { tag, codes, name, lent } => {
-            let mut line = buffer(lent);
-            Answer::Line(straight_scan::write_line(tag, codes, name, &mut line), line)
-        }
-        Call::Name { sheet, tag } => Answer::Name(straight_scan::name_of(sheet, tag)),
     }
 }
 
@@ -179,15 +115,6 @@ fn plain_lines() -> Vec<Vec<u8>> {
 fn sheets() -> [Vec<u8>; 3] {
     let same = [line_of("17", ["1", "2", "3"], "one"), line_of("17", ["1", "2", "3"], "other")];
     [good_sheet(&plain_lines()[..2]), good_sheet(&plain_lines()), good_sheet(&same)]
-}
-
-fn lines_in(sheet: &[u8]) -> impl Iterator<Item = &[u8]> {
-    sheet.get(HEADER..).unwrap_or_default().chunks_exact(LINE)
-}
-
-/// The tags that a sheet's lines have, good or not.
-fn tags_in(sheet: &[u8]) -> Vec<u32> {
-    lines_in(sheet).filter_map(|l| straight_scan::column(&l[..10])?.try_into().ok()).collect()
 }
 
 /// Looks up every tag of two sheets in the second, and one tag of neither.
@@ -485,48 +412,6 @@ fn random_bytes() {
     }
 }
 
-/// A digit for a digit, a name byte for another; what else stands there stays.
-fn alike(byte: u8, state: &mut u64) -> u8 {
-    match byte {
-        b'0'..=b'9' => b'0' + below(10, state) as u8,
-        33..=126 => 33 + below(94, state) as u8,
-        _ => byte,
-    }
-}
-
-/// The number of whole lines after a header's bytes.
-fn room(sheet: &[u8]) -> usize {
-    sheet.len().saturating_sub(HEADER) / LINE
-}
-
-/// A header put first that says how many lines there are.
-fn recount(sheet: &mut [u8]) {
-    if sheet.len() >= HEADER {
-        let header = sheet_of(room(sheet), &[]);
-        sheet[..HEADER].copy_from_slice(&header);
-    }
-}
-
-/// One edit of a sheet: a byte, two bytes or a line.
-fn edit(sheet: &mut Vec<u8>, state: &mut u64) {
-    if sheet.is_empty() {
-        return;
-    }
-    let [at, other] = [0; 2].map(|_: usize| below(sheet.len(), state));
-    let lines = room(sheet);
-    let start = HEADER + LINE * below(lines.max(1), state);
-    match below(10, state) {
-        0 => sheet[at] = random(state) as u8,
-        1 => _ = sheet.remove(at),
-        2 => sheet.insert(at, any_of(b" \n0A", state)),
-        3 => sheet.swap(at, other),
-        4 if lines > 0 => _ = sheet.drain(start..start + LINE),
-        5 if lines > 0 => sheet.extend_from_within(start..start + LINE),
-        6 if lines > 0 => sheet.copy_within(start..start + LINE, HEADER),
-        _ => sheet[at] = alike(sheet[at], state),
-    }
-}
-
 #[test]
 fn random_edits() {
     let mut state = 5;
@@ -534,11 +419,7 @@ fn random_edits() {
     for _ in 0..100_000 {
         let s = &mut state;
         let before = good_sheet(&any_lines(1 + below(5, s), s));
-        let mut sheet = before.clone();
-        (0..=below(3, s)).for_each(|_| edit(&mut sheet, s));
-        if below(4, s) > 0 {
-            recount(&mut sheet);
-        }
+        let sheet = edited(before.clone(), s);
         look_up_all(&before, &sheet);
         good += usize::from(tags_in(&sheet).first().is_some_and(|&tag| !look_up(&sheet, tag).is_empty()));
     }

@@ -8,6 +8,7 @@
 #[rustfmt::skip]
 mod straight_scan;
 
+mod compared;
 mod damage;
 mod lent;
 mod random;
@@ -24,13 +25,8 @@ use straight_scan::{Bin, Call, Sample};
 /// look at it.
 fn check(samples: &[u32], octants: &[u32]) -> bool {
     let expected = straight_scan::sound(samples, octants);
-    let (mut s, mut o) = (Lent::new(samples), Lent::new(octants));
-    let number = {
-        let (s, o) = (s.within(), o.within());
-        unsafe { raw::hbx_check(s.as_ptr(), s.len(), o.as_ptr(), o.len()) }
-    };
-    assert_eq!(number, expected as u32, "the library on {}", shown(samples, octants));
-    assert!(s.left() == Some(samples) && o.left() == Some(octants), "a check wrote on {}", shown(samples, octants));
+    let given = compared::check::through_c(samples, octants);
+    assert_eq!(given, expected, "the library on {}", shown(samples, octants));
     assert_eq!(hubeltxa::lent::check(samples, octants), expected, "the wrapper on {}", shown(samples, octants));
     expected
 }

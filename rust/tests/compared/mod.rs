@@ -234,7 +234,7 @@ impl Compared {
     /// Prints how many calls were compared.
     pub fn print(&self, what: &str) {
         println!("{what}: {} calls", self.0.iter().flatten().sum::<usize>());
-        for ((name, numbers), counts) in CALLS.iter().zip(self.0) {
+        for (name, numbers, counts) in self.rows() {
             let seen = numbers.iter().filter(|&&number| counts[number] > 0);
             let each: Vec<String> = seen.map(|&number| format!("{number}: {}", counts[number])).collect();
             if !each.is_empty() {
