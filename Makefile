@@ -1,27 +1,39 @@
-# make              prove every crate, and build target/staticlib/libhubeltxa.a
+# make              prove every crate, and build lib/libhubeltxa.a and target/bin/walklist
+# make lib          lib/libhubeltxa.a, for include/hubeltxa.h
 # make test         the whole test, from nothing; its last line is rt's verdict
-# make test-long    all 2^32 floats in each channel, and more tables, calls and queries, compared with the straight scan
+# make test-long    all 2^32 floats in each channel, and more tables, calls, queries and sheets, compared with the straight scan
+# make fuzz         random calls and damaged inputs compared with the straight scan, for SECONDS=60; SEED=s again, ROUND=r alone
 # make definitions  the definitions, compared with the straight scan by computing both
 # make rules        changed rules of the reference machine, each of which must break the proof of its call
-# make bench        how fast sheets are read and written, beside ordinary Rust, tables built, checked and changed, beside C++,
-#                   and queries asked, beside C++, nanoflann and FLANN
+# make bench        how fast it is, beside C++, nanoflann, FLANN and a scan; written to docs/BENCHMARK.md
 # make fmt          format Rattle and Rust
 # make clean        remove what is built
 
-.PHONY: all test test-long definitions rules bench fmt clean
+.PHONY: all lib parts test test-long fuzz definitions rules bench fmt clean
 
 all:
 	@rt check
+	@$(MAKE) --no-print-directory lib
+
+lib:
 	@rt staticlib hubeltxa
+	@mkdir -p lib
+	@cp target/staticlib/libhubeltxa.a lib/
+
+# What the tests and the benchmark run, besides the library.
+parts:
+	@for name in hubeltxa rebuild replay; do rt staticlib $$name || exit 1; done
 
 test:
 	@tools/test
 
-test-long:
-	@rt staticlib hubeltxa
-	@rt staticlib rebuild
-	@rt staticlib replay
+test-long: parts
+	@rt check walklist
 	@cd rust && cargo test --release --offline -- --ignored --show-output
+
+fuzz:
+	@rt staticlib hubeltxa
+	@cd rust && FUZZ_SECONDS=$(or $(SECONDS),60) FUZZ_SEED=$(SEED) FUZZ_ROUND=$(ROUND) cargo test --release --offline --test fuzz
 
 definitions:
 	@tools/definitions/run
@@ -29,15 +41,8 @@ definitions:
 rules:
 	@tools/rules/run
 
-bench:
-	@rt staticlib hubeltxa
-	@rt staticlib rebuild
-	@cd rust && cargo bench --offline
-	@bench/build
-	@target/bench/tables
-	@target/bench/changes
-	@target/bench/queries
-	@target/bench/nearest
+bench: parts
+	@bench/run
 
 fmt:
 	@rt fmt
@@ -45,4 +50,4 @@ fmt:
 	@rustfmt --edition 2021 tools/definitions/generator/main.rs
 
 clean:
-	@rm -rf target rust/target
+	@rm -rf target lib rust/target
