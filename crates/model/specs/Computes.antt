@@ -11,7 +11,7 @@ use Rattle.model.specs.Machine.{tablesOf, loadAnswer, listAnswer, neares
 use Rattle.model.specs.Machine.{clearQuestions, fitQuestions, roomQuestions, addQuestions, removeQuestions, unlessRefused, loadLines, load}
 use Rattle.model.specs.Machine.{listingAnswer, foundAnswer, askedAnswer, step, startOn, start}
 use Rattle.model.specs.Sound.{longEnough}
-use Rattle.model.specs.Walklist.{walklistStart, tagLines, refusedLine, walklistPrints}
+use Rattle.model.specs.Walklist.{walklistStart, tagLines, refusedLine, printedAfter, walklistPrints}
 
 unfoldable pub computes : Unit {0}
 unfolding sheetComputes ofBits round keep joined total padded placedFrom placed part splits orderOf octantsOf order octants
@@ -22,5 +22,5 @@ unfolding sheetComputes ofBits round keep joined total padded placedFrom placed 
     tablesOf loadAnswer listAnswer nearestAnswer plain withSet withSamples emptySet added removed hasTag
     clearQuestions fitQuestions roomQuestions addQuestions removeQuestions unlessRefused loadLines load
     listingAnswer foundAnswer askedAnswer step startOn start longEnough
-    walklistStart tagLines refusedLine walklistPrints
+    walklistStart tagLines refusedLine printedAfter walklistPrints
 computes = tt

@@ -25,8 +25,11 @@ tagLines (tag ∷ rest) = columnOf tagColumns tag ++ (newline ∷ tagLines rest)
 unfoldable pub refusedLine : ℕ → List ℕ
 refusedLine n = 82 ∷ 69 ∷ 70 ∷ 85 ∷ 83 ∷ 69 ∷ 68 ∷ columnOf 3 n ++ (newline ∷ [])
 
--- 32,768 bytes at most; what follows is cut off. It prints the tags of the order, or the refusal.
-unfoldable pub walklistPrints : List ℕ → List ℕ
-walklistPrints input =
-    let o : Outcome = step walklistStart (Load (take 32768 input)) in
+-- What a load came to, printed: the tags of the order, or the refusal alone.
+unfoldable pub printedAfter : Outcome → List ℕ
+printedAfter o =
     elim (eqb (o .answer .number) 0) [ true ↦ tagLines (map tagOf (order (o .next .set))) | false ↦ refusedLine (o .answer .number) ]
+
+-- 32,768 bytes at most; what follows is cut off.
+unfoldable pub walklistPrints : List ℕ → List ℕ
+walklistPrints input = printedAfter (step walklistStart (Load (take 32768 input)))

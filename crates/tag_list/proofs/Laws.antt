@@ -3,3 +3,4 @@ pub mod Lines
 pub mod Order
 pub mod Loading
 pub mod Printing
+pub mod Paper

@@ -12,7 +12,7 @@ use Rattle.model.specs.SampleSet.{order}
 use Rattle.model.specs.Tables.{Tables}
 use Rattle.model.specs.Queries.{tagOf}
 use Rattle.model.specs.Machine.{Outcome, Load, step}
-use Rattle.model.specs.Walklist.{walklistStart, tagLines, refusedLine, walklistPrints}
+use Rattle.model.specs.Walklist.{walklistStart, tagLines, refusedLine, printedAfter, walklistPrints}
 use Rattle.tag_list.specs.Printed.{Printed, OrderPrinted, SheetLoaded}
 use Rattle.tag_list.proofs.Laws.Lines.{lines-length, refusal-length}
 use Rattle.tag_list.proofs.Laws.Order.{Ordered}
@@ -59,13 +59,13 @@ module _ (input : List ℕ) (n : ℕ) (t : Tables) (loaded : SheetLoaded (take 3
   printed accepted = elim accepted [ true ↦ tagLines (map tagOf (order (o .next .set))) | false ↦ refusedLine (o .answer .number) ]
 
   pub refusal-printed : (n ≡ 0 → ⊥) → (before after : List ℕ) → after ≡ refusedLine n ++ drop 11 before → Printed (walklistPrints input) before after 11
-  unfolding walklistPrints
+  unfolding walklistPrints printedAfter
   refusal-printed refused before after e =
       let is : walklistPrints input ≡ refusedLine n = ap printed (ne-eqb (o .answer .number) 0 (λ z. refused (loaded .number-is ∙ z))) ∙ ap refusedLine (sym (loaded .number-is)) in
       record { count = omega (arith, ap length is, refusal-length n); text = e ∙ ap (λ (l : List ℕ). l ++ drop 11 before) (sym is) }
 
   pub tags-printed : n ≡ 0 → (before after : List ℕ) (k : ℕ) → OrderPrinted t before after k → Printed (walklistPrints input) before after k
-  unfolding walklistPrints OrderPrinted
+  unfolding walklistPrints printedAfter OrderPrinted
   tags-printed accepted before after k h =
       let is : walklistPrints input ≡ tagLines (map tagOf (order (o .next .set))) = ap printed (eq-eqb (o .answer .number) 0 (sym (loaded .number-is) ∙ accepted)) in
       let p = h (o .next) (loaded-shows (take 32768 input) n t loaded) in
