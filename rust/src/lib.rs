@@ -99,3 +99,8 @@ pub use colour::{codes, floats};
 pub use refusal::{Refusal, RefusedLoad};
 pub use set::{Sample, SampleSet};
 pub use sheet::{name, write_line, HEADER_LENGTH, LINE_LENGTH};
+
+/// The page of Rust in README is run as a test.
+#[cfg(doctest)]
+#[doc = include_str!("../../README.md")]
+struct Readme;
