@@ -4,12 +4,13 @@
 # make test-long    all 2^32 floats in each channel, and more tables, calls, queries and sheets, compared with the straight scan
 # make fuzz         random calls and damaged inputs compared with the straight scan, for SECONDS=60; SEED=s again, ROUND=r alone
 # make definitions  the definitions, compared with the straight scan by computing both
+# make must-fail    every must-fail edit, also those that are not in the gate; CRATE=order for those of one crate
 # make rules        changed rules of the reference machine, each of which must break the proof of its call
 # make bench        how fast it is, beside C++, nanoflann, FLANN and a scan; written to docs/BENCHMARK.md
 # make fmt          format Rattle and Rust
 # make clean        remove what is built
 
-.PHONY: all lib parts test test-long fuzz definitions rules bench fmt clean
+.PHONY: all lib parts test test-long fuzz definitions must-fail rules bench fmt clean
 
 all:
 	@rt check
@@ -37,6 +38,9 @@ fuzz:
 
 definitions:
 	@tools/definitions/run
+
+must-fail:
+	@tools/must-fail $(CRATE)
 
 rules:
 	@tools/rules/run
