@@ -3,31 +3,29 @@
 // Nothing of the library uses it.
 #pragma once
 
-#include "measure.hpp"
+#include "listing.hpp"
 
 // The nearest so far: its squared distance, at first the squared radius; its octant; its row and one more, 0 where
 // there is none. Octants stand in the order of the samples, so of two as far the one in the lower octant comes first.
-struct NearestQ {
-  const u32 *s, *o;
+struct Search {
+  const u32 *samples, *octants;
   u32 c[3];
   u64 d2;
   u32 octant, row;
 };
-static inline u64 gap(u32 x, u32 lo, u32 side) {
+inline u64 gap(u32 x, u32 lo, u32 side) {
   const u32 last = lo + side - 1;
   return x <= lo ? sq((long)lo - x) : last <= x ? sq((long)x - last) : 0;
 }
-static inline bool closer(const NearestQ& q, u64 d2, u32 octant) {
-  return d2 < q.d2 || (d2 == q.d2 && octant < q.octant);
-}
+inline bool closer(const Search& q, u64 d2, u32 octant) { return d2 < q.d2 || (d2 == q.d2 && octant < q.octant); }
 
 // Goes to the child that is closest to the centre first, and then across its planes to the others.
-static void visit_nearest(NearestQ& q, u32 row, const u32 lo[3], u32 side) {
-  const u32* w = q.o + 1 + 11 * (size_t)row;
-  if (side == 1 || w[2] <= q.s[1]) {
+inline void search_octant(Search& q, u32 row, const u32 lo[3], u32 side) {
+  const u32* w = q.octants + 1 + 11 * (size_t)row;
+  if (side == 1 || w[2] <= q.samples[1]) {
     u32 r = w[0];
     for (u32 i = 0; i < w[2]; i++) {
-      const u32* x = q.s + 2 + 5 * (size_t)r;
+      const u32* x = q.samples + 2 + 5 * (size_t)r;
       u64 d = sq((long)x[1] - q.c[0]) + sq((long)x[2] - q.c[1]) + sq((long)x[3] - q.c[2]);
       if (closer(q, d, row)) {
         q.d2 = d;
@@ -53,7 +51,7 @@ static void visit_nearest(NearestQ& q, u32 row, const u32 lo[3], u32 side) {
     u64 d = near + (m & 1) * more[0] + (m >> 1 & 1) * more[1] + (m >> 2 & 1) * more[2];
     if (closer(q, d, child)) {
       const u32 l[3] = {lo[0] + (k & 1) * h, lo[1] + (k >> 1 & 1) * h, lo[2] + (k >> 2 & 1) * h};
-      visit_nearest(q, child, l, h);
+      search_octant(q, child, l, h);
     }
   }
 }

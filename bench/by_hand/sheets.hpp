@@ -1,0 +1,104 @@
+// Hand-written C++ that reads and writes sheets, with the library's checks: the header, columns, ranges and names. The
+// benchmark measures the library beside it. Nothing of the library uses it.
+#pragma once
+
+#include <cstring>
+
+#include "build.hpp"
+
+const size_t HEADER = 15, LINE = 62, NAME = 29;
+
+// The number at the right of so many columns, if it is at most `most`.
+inline bool read_number(const uint8_t* at, size_t columns, u64 most, u64& number) {
+  const uint8_t* end = at + columns;
+  while (at < end && *at == ' ') at++;
+  if (at == end || (*at == '0' && end - at > 1)) return false;
+  number = 0;
+  for (; at < end; at++) {
+    u32 digit = (u32)*at - '0';
+    if (digit > 9) return false;
+    number = 10 * number + digit;
+  }
+  return number <= most;
+}
+
+inline bool in_name(uint8_t byte) { return byte > ' ' && byte <= '~'; }
+
+// How long the name at the left of these columns is; 0 where it is not good.
+inline size_t name_length(const uint8_t* start, const uint8_t* end) {
+  const uint8_t* at = start;
+  while (at < end && in_name(*at)) at++;
+  const size_t length = at - start;
+  while (at < end && *at == ' ') at++;
+  return at == end ? length : 0;
+}
+
+// Where in a sheet a name stands.
+struct Part {
+  size_t start, length;
+};
+
+inline bool read_line(const uint8_t* at, Sample& sample, size_t& length) {
+  u64 tag, red, green, blue;
+  if (!read_number(at, 10, 4294967295, tag) || !read_number(at + 10, 6, 65535, red) ||
+      !read_number(at + 16, 6, 65535, green) || !read_number(at + 22, 6, 65535, blue) || at[28] != ' ' ||
+      at[61] != '\n')
+    return false;
+  sample = {(u32)tag, {{(u32)red, (u32)green, (u32)blue}}};
+  length = name_length(at + NAME, at + 61);
+  return length > 0;
+}
+
+inline bool read_header(const std::vector<uint8_t>& sheet, u64& count) {
+  return sheet.size() >= HEADER && memcmp(sheet.data(), "SWATCHES", 8) == 0 && sheet[14] == '\n' &&
+         read_number(&sheet[8], 6, 999999, count) && sheet.size() == HEADER + LINE * count;
+}
+
+// The samples of the lines before the first that is not good; none where the header is not.
+inline std::vector<Sample> read_sheet(const std::vector<uint8_t>& sheet) {
+  std::vector<Sample> samples;
+  u64 count;
+  if (!read_header(sheet, count)) return samples;
+  samples.reserve(count);
+  Sample sample;
+  size_t length;
+  for (u64 k = 0; k < count && read_line(&sheet[HEADER + LINE * k], sample, length); k++) samples.push_back(sample);
+  return samples;
+}
+
+// The name in the first line with the tag; the empty part where there is none, or the sheet is not good.
+inline Part find_name(const std::vector<uint8_t>& sheet, u32 tag) {
+  u64 count;
+  Part found{0, 0};
+  if (!read_header(sheet, count)) return found;
+  for (u64 k = 0; k < count; k++) {
+    const size_t at = HEADER + LINE * k;
+    Sample sample;
+    size_t length;
+    if (!read_line(&sheet[at], sample, length)) return {0, 0};
+    if (found.length == 0 && sample.tag == tag) found = {at + NAME, length};
+  }
+  return found;
+}
+
+// Writes a number to the left of `end`.
+inline void put_number(uint8_t* end, u32 number) {
+  do *--end = '0' + number % 10;
+  while (number /= 10);
+}
+
+// Writes a line over the first bytes lent, and gives the number that the library gives.
+inline u32 put_line(const Sample& sample, const uint8_t* name, size_t length, uint8_t* line, size_t line_length) {
+  for (u32 code : sample.colour.c)
+    if (code > 65535) return 4;
+  if (length < 1 || length > 32) return 10;
+  for (size_t i = 0; i < length; i++)
+    if (!in_name(name[i])) return 10;
+  if (line_length < LINE) return 13;
+  memset(line, ' ', LINE - 1);
+  put_number(line + 10, sample.tag);
+  for (int i = 0; i < 3; i++) put_number(line + 16 + 6 * i, sample.colour.c[i]);
+  memcpy(line + NAME, name, length);
+  line[LINE - 1] = '\n';
+  return 0;
+}

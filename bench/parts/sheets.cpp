@@ -1,0 +1,156 @@
+// How fast names are looked up, lines written, and colours turned to codes and back, beside hand-written C++ that is as
+// strict (by_hand/sheets.hpp, by_hand/panel.hpp). The lookup is of a tag that no line has, which reads the header and
+// every line.
+#include "../shared/sheets.hpp"
+
+#include "../shared/library.hpp"
+#include "parts.hpp"
+
+const int LINES = SAMPLES;
+
+struct Line {
+  Sample sample;
+  std::string name;
+  const uint8_t* bytes() const { return (const uint8_t*)name.data(); }
+};
+
+// A number of so many bits, of any length.
+static u32 any_number(int bits, std::mt19937& g) {
+  const u32 shift = g() % bits;
+  return (u32)((g() % (1ull << bits)) >> shift);
+}
+
+static std::vector<Line> any_lines() {
+  std::mt19937 g(1);
+  std::vector<Line> lines(LINES);
+  for (auto& line : lines) {
+    line.sample.tag = any_number(32, g);
+    for (auto& c : line.sample.colour.c) c = any_number(16, g);
+    line.name = any_name(g);
+  }
+  return lines;
+}
+
+// Writes a whole sheet, line by line.
+template <class Write>
+static void write_all(const std::vector<Line>& lines, Sheet& sheet, Write write) {
+  for (size_t i = 0; i < lines.size(); i++) {
+    uint8_t* at = &sheet[HEADER + LINE * i];
+    must(write(lines[i].sample, lines[i].bytes(), lines[i].name.size(), at, LINE) == 0, "a line is refused");
+  }
+}
+
+static bool same(const Part& a, const Part& b) { return a.start == b.start && a.length == b.length; }
+
+// That both find the same name in a sheet of two lines with every byte changed in turn, which most often is not good.
+static void compare_lookups(const Sheet& good) {
+  for (size_t at = 0; at < good.size(); at++)
+    for (int byte = 0; byte < 256; byte++) {
+      Sheet sheet = good;
+      sheet[at] = byte;
+      const Samples samples = read_sheet(sheet);
+      const u32 tag = samples.empty() ? 0 : samples[0].tag;
+      must(same(library::name(sheet, tag), find_name(sheet, tag)), "C++ finds another name");
+    }
+}
+
+// That both refuse the same lines, by the same number.
+static void compare_refusals(const Line& line) {
+  auto both = [](const Sample& sample, const std::string& name, size_t lent) {
+    uint8_t ours[LINE] = {}, theirs[LINE] = {};
+    const uint8_t* bytes = (const uint8_t*)name.data();
+    u32 number = library::line(sample, bytes, name.size(), ours, lent);
+    must(number == put_line(sample, bytes, name.size(), theirs, lent) && memcmp(ours, theirs, LINE) == 0,
+         "C++ writes another line");
+    return number;
+  };
+  Sample wrong = line.sample;
+  wrong.colour.c[1] = 65536;
+  must(both(line.sample, line.name, LINE) == 0 && both(wrong, line.name, LINE) == 4, "other numbers");
+  must(both(line.sample, "", LINE) == 10 && both(line.sample, "A 1", LINE) == 10, "other numbers");
+  must(both(line.sample, std::string(33, 'A'), LINE) == 10, "other numbers");
+  must(both(line.sample, line.name, LINE - 1) == 13, "other numbers");
+}
+
+static Rows race_lookups(const Sheet& sheet, const std::vector<Line>& lines) {
+  u32 absent = 0;
+  auto has = [&](const Line& line) { return line.sample.tag == absent; };
+  while (std::any_of(lines.begin(), lines.end(), has)) absent++;
+  for (auto& line : lines)
+    must(same(library::name(sheet, line.sample.tag), find_name(sheet, line.sample.tag)), "C++ finds another name");
+  return race(
+      {"Sheets read", LINES, ""},
+      {
+          {CPP, "the same lookup", [&] { must(find_name(sheet, absent).length == 0, "found"); }},
+          {LIBRARY, "lookup of an absent tag", [&] { must(library::name(sheet, absent).length == 0, "found"); }},
+          {CPP, "to a vector of samples", [&] { must(read_sheet(sheet).size() == LINES, "other lines"); }},
+      });
+}
+
+static Rows race_writing(const Sheet& sheet, const std::vector<Line>& lines) {
+  Sheet a = blank_sheet(LINES), b = a, c = a;
+  auto print = [](const Sample& sample, const uint8_t* name, size_t length, uint8_t* at, size_t) {
+    print_line(at, sample, {(const char*)name, length});
+    return 0;
+  };
+  std::vector<Way> ways = {
+      {CPP, "digit by digit", [&] { write_all(lines, b, put_line); }},
+      {LIBRARY, "lines written", [&] { write_all(lines, a, library::line); }},
+      {CPP, "snprintf", [&] { write_all(lines, c, print); }},
+  };
+  for (auto& way : ways) way.run();
+  must(a == sheet && b == sheet && c == sheet, "the sheets written are not the same");
+  return race({"Sheets written", LINES, ""}, ways);
+}
+
+// Applies one of the conversions to each colour.
+template <class From, class To, class Convert>
+static void convert_all(const std::vector<From>& from, std::vector<To>& to, Convert convert) {
+  for (size_t i = 0; i < from.size(); i++) must(convert(from[i], to[i]) == 0, "a colour is refused");
+}
+
+template <class To>
+static bool same_bytes(const std::vector<To>& a, const std::vector<To>& b) {
+  return memcmp(a.data(), b.data(), a.size() * sizeof(To)) == 0;
+}
+
+template <class From, class To, class Ours, class Theirs>
+static Rows race_conversion(const std::string& what, const std::vector<From>& from, std::vector<To>& to, Ours ours,
+                            Theirs theirs) {
+  std::vector<To> other(from.size());
+  convert_all(from, to, ours);
+  convert_all(from, other, theirs);
+  if (!same_bytes(to, other)) fail(what + ": C++ gives something else");
+  return race({what, from.size(), ""}, {
+                                           {CPP, "the same", [&] { convert_all(from, other, theirs); }},
+                                           {LIBRARY, what, [&] { convert_all(from, to, ours); }},
+                                       });
+}
+
+static Rows race_conversions() {
+  std::mt19937 g(2);
+  std::vector<PanelColour> panel(SAMPLES), shown(SAMPLES);
+  Colours colours(SAMPLES);
+  for (auto& x : panel)
+    for (auto& v : x.v) v = std::ldexp((float)(g() >> 8), -24);
+  Rows rows = race_conversion("floats to codes", panel, colours, library::codes, codes_of);
+  append(rows, race_conversion("codes to floats", colours, shown, library::floats, floats_of));
+  for (float v : {-0.5f, 1.0f, NAN, INFINITY}) {
+    Colour a, b;
+    must(library::codes({{0, v, 0}}, a) == 9 && codes_of({{0, v, 0}}, b) == 9, "a float is not refused");
+  }
+  return rows;
+}
+
+Rows measure_sheets() {
+  const std::vector<Line> lines = any_lines();
+  Sheet sheet = blank_sheet(LINES), two = blank_sheet(2);
+  write_all(lines, sheet, library::line);
+  std::copy_n(sheet.begin() + HEADER, 2 * LINE, two.begin() + HEADER);
+  compare_lookups(two);
+  compare_refusals(lines[0]);
+  Rows rows = race_lookups(sheet, lines);
+  append(rows, race_writing(sheet, lines));
+  append(rows, race_conversions());
+  return rows;
+}
