@@ -2,7 +2,7 @@
 // them; what it gives are rows for a table.
 #pragma once
 
-#include "../shared/measure.hpp"
+#include "../measure/measure.hpp"
 #include "../shared/sets.hpp"
 
 // Names looked up, lines written, floats to codes and back.

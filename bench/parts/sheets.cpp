@@ -135,10 +135,11 @@ static Rows race_conversions() {
     for (auto& v : x.v) v = std::ldexp((float)(g() >> 8), -24);
   Rows rows = race_conversion("floats to codes", panel, colours, library::codes, codes_of);
   append(rows, race_conversion("codes to floats", colours, shown, library::floats, floats_of));
-  for (float v : {-0.5f, 1.0f, NAN, INFINITY}) {
-    Colour a, b;
+  Colour a, b;
+  PanelColour c, d;
+  for (float v : {-0.5f, 1.0f, NAN, INFINITY})
     must(library::codes({{0, v, 0}}, a) == 9 && codes_of({{0, v, 0}}, b) == 9, "a float is not refused");
-  }
+  must(library::floats({{0, 65536, 0}}, c) == 4 && floats_of({{0, 65536, 0}}, d) == 4, "a code is not refused");
   return rows;
 }
 

@@ -4,9 +4,11 @@
 #include "../shared/peers.hpp"
 #include "parts.hpp"
 
-// An index built, and one query so that it is not left out.
+// An index built, and asked once so that the build is not left out.
 template <class Peer>
 static Way building(Who who, const Colours& colours) {
+  const u32 row = Peer(colours).ask(Nearest{{colours[0], ANY_RADIUS}});
+  must(row != NONE && distance(colours[row], colours[0]) == 0, "an index finds otherwise");
   return {who, "its own index", [&colours] { sink = Peer(colours).ask(Nearest{{colours[0], ANY_RADIUS}}); }};
 }
 

@@ -1,6 +1,5 @@
 #include <fstream>
 
-#include "../shared/asking.hpp"
 #include "report.hpp"
 
 // The page's words; a name in braces is a number that `filled` puts there.
@@ -62,9 +61,13 @@ The bytes of stack that a call took, with the few that the benchmark needs to ma
 )";
 
 static std::string filled(std::string text) {
-  const std::pair<const char*, size_t> numbers[] = {
-      {"{rounds}", ROUNDS},   {"{query rounds}", QUERY_ROUNDS}, {"{queries}", QUERIES},          {"{bucket}", BUCKET},
-      {"{samples}", SAMPLES}, {"{sample words}", SAMPLE_WORDS}, {"{octant words}", OCTANT_WORDS}};
+  const std::pair<const char*, size_t> numbers[] = {{"{rounds}", rounds_left(ROUNDS)},
+                                                    {"{query rounds}", rounds_left(QUERY_ROUNDS)},
+                                                    {"{queries}", QUERIES},
+                                                    {"{bucket}", BUCKET},
+                                                    {"{samples}", SAMPLES},
+                                                    {"{sample words}", SAMPLE_WORDS},
+                                                    {"{octant words}", OCTANT_WORDS}};
   for (auto& number : numbers)
     for (size_t at; (at = text.find(number.first)) != std::string::npos;)
       text.replace(at, std::string(number.first).size(), grouped(number.second));

@@ -1,8 +1,8 @@
 // What was measured, as tables, as a page with the machine's description, and as a plot.
 #pragma once
 
+#include "../measure/table.hpp"
 #include "../parts/parts.hpp"
-#include "table.hpp"
 
 struct Report {
   Rows ratios, growth, dearest;

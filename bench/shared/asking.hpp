@@ -5,10 +5,8 @@
 #include <iterator>
 #include <type_traits>
 
-#include "../report/table.hpp"
+#include "../measure/table.hpp"
 #include "peers.hpp"
-
-const int QUERIES = 4000, QUERY_ROUNDS = 40, QUERY_WARM_UP = 3;
 
 // A set in everyone's form. Tags are the rows.
 struct Set {

@@ -1,7 +1,7 @@
 // Sets and tables that are dear to ask, or that take most stack.
 #pragma once
 
-#include "measure.hpp"
+#include "../measure/measure.hpp"
 #include "queries.hpp"
 
 // A ball whose surface goes through many octants.

@@ -6,7 +6,7 @@
 #include <algorithm>
 #include <utility>
 
-#include "measure.hpp"
+#include "../measure/measure.hpp"
 #include "queries.hpp"
 
 #if __has_include(<nanoflann.hpp>)

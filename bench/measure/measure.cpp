@@ -20,7 +20,7 @@ static double now() {
 }
 
 static std::vector<Time> timed(const Race& how, const std::vector<Way>& ways) {
-  const int part = options.quick ? 10 : 1, rounds = std::max(how.rounds / part, 1), warm_up = how.warm_up / part;
+  const int rounds = rounds_left(how.rounds), warm_up = rounds_left(how.warm_up);
   std::vector<std::vector<double>> times(ways.size());
   for (int round = 0; round < warm_up + rounds; round++)
     for (size_t i = 0; i < ways.size(); i++) {

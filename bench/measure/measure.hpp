@@ -55,6 +55,11 @@ using Rows = std::vector<Row>;
 inline void append(Rows& to, const Rows& more) { to.insert(to.end(), more.begin(), more.end()); }
 
 const int ROUNDS = 300, WARM_UP = 20;
+// A round of queries is so many of them.
+const int QUERIES = 4000, QUERY_ROUNDS = 40, QUERY_WARM_UP = 3;
+
+// So many rounds as the command line leaves of them.
+inline int rounds_left(int rounds) { return options.quick ? rounds / 10 : rounds; }
 
 // How ways are raced: rounds, those before them that do not count, and how many calls a run is.
 struct Race {
