@@ -24,6 +24,12 @@ struct Built {
     if (lengths == LONGEST) copy_padded(t, room);
     return t.octants[0];
   }
+  // The tables of fewer samples, as long as these.
+  Tables padded(const Samples& fewer) const {
+    Tables t = full;
+    copy_padded(build(fewer, BUCKET), t);
+    return t;
+  }
 };
 
 // A set that each round finds full, or without the sample that is to be added.
@@ -51,6 +57,8 @@ Rows race_changes(const Race& how, const Samples& samples, Lengths lengths) {
   Changed adding(built.full, samples.back()), last(built.full, samples.back()), first(built.full, samples[0]);
   adding.remove(), adding.add();
   must(same_tables(adding.t, built.full), "the library's tables are not those by C++");
+  first.remove();
+  must(same_tables(first.t, built.padded({samples.begin() + 1, samples.end()})), "C++ has other tables after a remove");
   const std::string longer = suffix(lengths);
   return race(how, {
                        {CPP, "build" + longer, [&] { sink = built.keep(build(samples, BUCKET)); }},

@@ -1,13 +1,16 @@
 // What a query can cost at most: on sound tables and on words that are none, all as long as a set can need, the dearest
 // of each that were found.
+#include "../measure/table.hpp"
 #include "../shared/hard_tables.hpp"
 #include "parts.hpp"
 
 template <class Query>
-static Way asking(const std::string& what, const Tables& t, const Query& q) {
+static Way asking(std::string what, const Tables& t, const Query& q) {
   Library library(t, SAMPLES);
   library.ask(q);
   must(library.number == 0, "refused");
+  if (library.entered > 0)
+    what += ": " + grouped(library.entered) + " octants entered, " + grouped(library.measured) + " samples measured";
   return {LIBRARY, what, [library, q]() mutable { sink = library.ask(q); }};
 }
 

@@ -13,7 +13,7 @@ Rows measure_tables();
 Rows measure_changes();
 // Balls, boxes and nearest.
 Rows measure_queries();
-// All of these on sets of more and more samples.
+// Loads, checks, changes and queries of sets of more and more samples.
 Rows measure_growth();
 // The sound tables that are dearest to ask, and words that are no sound tables.
 Rows measure_dearest();

@@ -67,10 +67,12 @@ std::vector<std::string> machine() {
 std::string missing() {
   std::string names;
 #ifndef HAS_NANOFLANN
-  names = "nanoflann (older than 1.5)";
+  names += " nanoflann (before 1.5)";
 #endif
 #ifndef HAS_FLANN
-  names += names.empty() ? "FLANN" : " and FLANN";
+  names += names.empty() ? " FLANN" : ", FLANN";
 #endif
-  return names.empty() ? "" : "Without " + names + ": `apt install libnanoflann-dev libflann-dev liblz4-dev`.";
+  if (names.empty()) return "";
+  return "Not here, and so not measured:" + names +
+         ". To have it measured: `apt install libnanoflann-dev libflann-dev liblz4-dev`.";
 }
