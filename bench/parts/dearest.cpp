@@ -9,8 +9,7 @@ static Way asking(std::string what, const Tables& t, const Query& q) {
   Library library(t, SAMPLES);
   library.ask(q);
   must(library.number == 0, "refused");
-  if (library.entered > 0)
-    what += ": " + grouped(library.entered) + " octants entered, " + grouped(library.measured) + " samples measured";
+  if (library.entered > 0) what += "; entered " + grouped(library.entered) + ", measured " + grouped(library.measured);
   return {LIBRARY, what, [library, q]() mutable { sink = library.ask(q); }};
 }
 

@@ -19,8 +19,8 @@ for the set; the longest have {sample words} and {octant words} words, as many a
   it is one build of the tables; beside a load, the sheet read and one build.
 - **nanoflann** and **FLANN** have k-d trees with leaves of 10 samples, over floats. Beside a build it is the build of
   their own index. FLANN's search for one neighbour takes no radius.
-- The **straight scan** goes through all samples, in an array for each channel; for balls and nearest it measures them in
-  floats.
+- The **straight scan** goes through all samples, in an array for each channel; for balls and nearest it measures them
+  in floats.
 
 – stands where there is no such call.
 )";
@@ -29,9 +29,9 @@ static const char* const RATIOS = R"(
 ## Ratios
 
 n is the number of lines, colours or samples. A lookup reads n lines; lines written, floats to codes and codes to floats
-are n calls, and all else is one call. Centres are so many codes off a sample in each channel, by the standard deviation;
-those of balls and boxes 400. Where tables are the longest, C++ builds its own, copies them there and writes zeros after
-them.
+are n calls, and all else is one call. Centres are so many codes off a sample in each channel, by the standard
+deviation; those of balls and boxes 400. Where tables are the longest, C++ builds its own, copies them there and writes
+zeros after them.
 
 )";
 
@@ -49,7 +49,8 @@ fewest samples to the most.
 static const char* const DEAREST = R"(
 ## Dearest tables
 
-The dearest queries that were found, on sound tables and on words that are none, {samples} samples in the longest tables.
+The dearest queries that were found, on sound tables and on words that are none: {samples} samples in the longest
+tables.
 
 )";
 
