@@ -72,19 +72,39 @@ static void compare_refusals(const Line& line) {
   must(both(line.sample, line.name, LINE - 1) == 13, "other numbers");
 }
 
+// The least tag that no line has.
+static u32 absent_tag(const std::vector<Line>& lines) {
+  u32 tag = 0;
+  auto has = [&](const Line& line) { return line.sample.tag == tag; };
+  while (std::any_of(lines.begin(), lines.end(), has)) tag++;
+  return tag;
+}
+
+static Way looking_up(const std::string& what, const Sheet& sheet, u32 absent) {
+  return {LIBRARY, what, [&sheet, absent] { must(library::name(sheet, absent).length == 0, "found"); }};
+}
+
 static Rows race_lookups(const Sheet& sheet, const std::vector<Line>& lines) {
-  u32 absent = 0;
-  auto has = [&](const Line& line) { return line.sample.tag == absent; };
-  while (std::any_of(lines.begin(), lines.end(), has)) absent++;
+  const u32 absent = absent_tag(lines);
   for (auto& line : lines)
     must(same(library::name(sheet, line.sample.tag), find_name(sheet, line.sample.tag)), "C++ finds another name");
-  return race(
-      {"Sheets read", LINES, ""},
-      {
-          {CPP, "the same lookup", [&] { must(find_name(sheet, absent).length == 0, "found"); }},
-          {LIBRARY, "lookup of an absent tag", [&] { must(library::name(sheet, absent).length == 0, "found"); }},
-          {CPP, "to a vector of samples", [&] { must(read_sheet(sheet).size() == LINES, "other lines"); }},
-      });
+  return race({"Sheets read", LINES, ""},
+              {
+                  {CPP, "the same lookup", [&] { must(find_name(sheet, absent).length == 0, "found"); }},
+                  looking_up("lookup of an absent tag", sheet, absent),
+                  {CPP, "to a vector of samples", [&] { must(read_sheet(sheet).size() == LINES, "other lines"); }},
+              });
+}
+
+// The lookup in sheets of fewer and of more lines, the same ones again and again; the time is that of a line: details.
+// (Of a small sheet that is read again and again the processor remembers the branches.)
+static void race_longer_lookups(const Sheet& sheet, const std::vector<Line>& lines) {
+  const u32 absent = absent_tag(lines);
+  for (int count : {256, 1024, 4096, 16384, 65536}) {
+    Sheet longer = blank_sheet(count);
+    for (int k = 0; k < count; k++) std::copy_n(&sheet[HEADER + LINE * (k % LINES)], LINE, &longer[HEADER + LINE * k]);
+    race({"Lookup, a line", (size_t)count, "", WARM_UP, 1, count}, {looking_up("lookup", longer, absent)});
+  }
 }
 
 static Rows race_writing(const Sheet& sheet, const std::vector<Line>& lines) {
@@ -151,6 +171,7 @@ Rows measure_sheets() {
   compare_lookups(two);
   compare_refusals(lines[0]);
   Rows rows = race_lookups(sheet, lines);
+  if (options.details) race_longer_lookups(sheet, lines);
   append(rows, race_writing(sheet, lines));
   append(rows, race_conversions());
   return rows;

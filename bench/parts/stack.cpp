@@ -31,12 +31,19 @@ static Bytes stack_of_changes(const Colours& colours, u32 bucket) {
   return bytes;
 }
 
+// Whether a query was answered is asked after the call, whose frame then is no larger for it.
 static void stack_of_queries(Bytes& bytes, const Tables& t) {
   Library library(t, SAMPLES), shorter(t, 100);
+  auto answered = [&] { must(library.number == 0, "a query is refused"); };
   took(bytes, [&] { library.ask(WIDE_BALL); });
+  answered();
+  const u32 in_ball = library.listed;
   took(bytes, [&] { library.ask(box_like(WIDE_BALL)); });
+  answered();
   took(bytes, [&] { shorter.ask(WIDE_BALL); });
+  must(shorter.number == (in_ball > 100 ? 13 : 0), "a short listing gets another number");
   took(bytes, [&] { library.ask(FROM_MIDDLE); });
+  answered();
 }
 
 static StackTable::Case of_set(const char* name, const Colours& colours, u32 bucket) {
