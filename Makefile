@@ -46,7 +46,8 @@ rules:
 	@tools/rules/run
 
 bench: parts
-	@bench/run
+	@bench/build
+	@target/bench/bench docs
 
 fmt:
 	@rt fmt
