@@ -25,7 +25,7 @@ tagLines (tag ∷ rest) = columnOf tagColumns tag ++ (newline ∷ tagLines rest)
 unfoldable pub refusedLine : ℕ → List ℕ
 refusedLine n = 82 ∷ 69 ∷ 70 ∷ 85 ∷ 83 ∷ 69 ∷ 68 ∷ columnOf 3 n ++ (newline ∷ [])
 
--- What a load came to, printed: the tags of the order, or the refusal alone.
+-- What a load came to, printed: each tag of the walk (the order), or on a refusal only that.
 unfoldable pub printedAfter : Outcome → List ℕ
 printedAfter o =
     elim (eqb (o .answer .number) 0) [ true ↦ tagLines (map tagOf (order (o .next .set))) | false ↦ refusedLine (o .answer .number) ]

@@ -3,18 +3,12 @@ use crate::calls::Call;
 use colour::Colour;
 use colour::PanelColour;
 use colour::Sample;
+use words::number::least;
 ghost use Prim.Native.Nat.{_+_, _/_, min};
 ghost use mathlib.Core.Path.{_≡_};
 ghost use lib.ListN.{getD};
 ghost use Rattle.replay.specs.Calls.{queryOf};
 ghost use Rattle.replay.specs.Script.{noFloat, colourAt, sampleIn, callIn, sheetIn, wants};
-
-// The lesser of two numbers.
-fn least(a: usize, b: usize) -> usize
-    ensures { λ r. ⌜ r ≡ min a b ⌝ }
-{
-    if a < b { a } else { b }
-}
 
 // How many steps there are words, floats and answer words for.
 pub fn steps_of(words: usize, floats: usize, answers: usize) -> usize

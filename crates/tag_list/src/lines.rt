@@ -11,10 +11,10 @@ ghost use Rattle.sheet.specs.Steps.{putAt};
 ghost use Rattle.model.specs.Walklist.{tagLines, refusedLine};
 
 // The bytes of a line.
-pub const LINE_LENGTH: usize = 11;
+pub const PRINTED_LINE: usize = 11;
 
 // Writes a number into the columns of a text that start at `at`, and a newline after it.
-fn put_last(text: &mut [u8], at: usize, columns: usize, n: u32)
+fn put_number_line(text: &mut [u8], at: usize, columns: usize, n: u32)
     requires { ⌜ at + columns + 1 ≤ length (now text) ⌝ }
     ensures { λ _. ⌜ now (text .exit) ≡ putAt at (columnOf columns n ++ (newline ∷ [])) (now (text .entry)) ⌝ }
 {
@@ -29,7 +29,7 @@ pub fn put_tags(text: &mut [u8], tags: &[u32])
 {
     let mut i = 0;
     while i < tags.len() {
-        put_last(text, LINE_LENGTH * i, TAG_COLUMNS, tags[i]);
+        put_number_line(text, PRINTED_LINE * i, TAG_COLUMNS, tags[i]);
         i += 1;
     }
 }
@@ -40,5 +40,5 @@ pub fn put_refusal(text: &mut [u8], number: u32)
     ensures { λ _. ⌜ now (text .exit) ≡ refusedLine number ++ drop 11 (now (text .entry)) ⌝ }
 {
     put_left(&mut text[..7], b"REFUSED");
-    put_last(text, 7, 3, number);
+    put_number_line(text, 7, 3, number);
 }

@@ -1,5 +1,5 @@
 // What walklist prints for what stands on its standard input.
-use crate::lines::LINE_LENGTH;
+use crate::lines::PRINTED_LINE;
 use crate::lines::put_refusal;
 use crate::lines::put_tags;
 use colour::Colour;
@@ -9,7 +9,8 @@ use listing::list::list;
 use samples::answers::report_of;
 use samples::clear::clear;
 use samples::load::load;
-ghost use Prim.Native.Nat.{min, _≤_};
+use words::number::least;
+ghost use Prim.Native.Nat.{_≤_};
 ghost use mathlib.Core.Path.{_≡_};
 ghost use lib.ListN.{length};
 ghost use Rattle.model.specs.Tables.{pair};
@@ -22,11 +23,13 @@ pub const INPUT_LENGTH: usize = 32768;
 // The most bytes that are printed: a line for each of 512 samples.
 pub const TEXT_LENGTH: usize = 5632;
 
-// The words of 512 sample and 1,489 octant rows, and the bucket size.
+// The words of 512 sample rows.
 const SAMPLE_WORDS: usize = 2562;
 
+// The words of 1,489 octant rows.
 const OCTANT_WORDS: usize = 16380;
 
+// The bucket size, b.
 const BUCKET: u32 = 2;
 
 // A colour with one code in each channel.
@@ -40,7 +43,7 @@ fn grey(code: u32) -> Colour
     }
 }
 
-// Writes the tags of the set in sound tables, in the order. A box of all colours lists every sample.
+// Writes the tags of the set in sound tables, in the order (the paper's walk). A box of all colours lists every sample.
 fn put_order(samples: &[u32], octants: &[u32], text: &mut [u8]) -> usize
     requires { ⌜ (Fits (pair (now samples) (now octants))) × (5632 ≤ length (now text)) ⌝ }
     ensures { λ r. ⌜ OrderPrinted (pair (now (samples .entry)) (now (octants .entry))) (now (text .entry)) (now (text .exit)) r ⌝ }
@@ -55,7 +58,7 @@ fn put_order(samples: &[u32], octants: &[u32], text: &mut [u8]) -> usize
         Listed::All(listed, entered, measured) => {
             let lines = listed as usize;
             put_tags(text, &tags[..lines]);
-            LINE_LENGTH * lines
+            PRINTED_LINE * lines
         }
         Listed::NoRoom => 0,
     }
@@ -71,24 +74,17 @@ fn load_sheet(samples: &mut [u32], octants: &mut [u32], sheet: &[u8]) -> u32
     report.number
 }
 
-// The lesser of two numbers.
-fn least(a: usize, b: usize) -> usize
-    ensures { λ r. ⌜ r ≡ min a b ⌝ }
-{
-    if a < b { a } else { b }
-}
-
 // Writes what walklist prints over the first bytes of a text, and says how many they are: an exported call. Input past 32,768 bytes is cut off.
 pub fn print(input: &[u8], text: &mut [u8; TEXT_LENGTH]) -> usize
     ensures { λ r. ⌜ Printed (walklistPrints (now (input .entry))) (now (text .entry)) (now (text .exit)) r ⌝ }
 {
     let mut samples = [0u32; SAMPLE_WORDS];
     let mut octants = [0u32; OCTANT_WORDS];
-    let end = least(input.len(), INPUT_LENGTH);
+    let end = least(INPUT_LENGTH, input.len());
     let number = load_sheet(&mut samples, &mut octants, &input[..end]);
     if number != 0 {
         put_refusal(text, number);
-        return LINE_LENGTH;
+        return PRINTED_LINE;
     }
     put_order(&samples, &octants, text)
 }

@@ -2,43 +2,18 @@
 use Prim.Native.Nat.{ℕ, _+_, _-_, _≤_, _<_, min}
 use mathlib.Core.Bool.{Bool, true, false}
 use mathlib.Core.List.{List, _++_, append-assoc}
-use mathlib.Core.Path.{_≡_, refl, sym, ap, _∙_}
+use mathlib.Core.Path.{_≡_, refl, ap, _∙_}
 use native.Mathlib.Nat.{zero-add}
 use native.Mathlib.Omega.{arith}
 use mir.Val.{boolByte}
-use borrow.Author.Tests.{leb-true, leb-false}
-use lib.Dec.{leb}
-use lib.ListN.{length, take, drop, getD, length-append, length-drop, drop-of-length-le}
+use lib.ListN.{length, take, drop, getD, length-append, length-drop}
 use lib.Seq.{sets, sets-eq, take-all, drop-cons, drop-drop, take-append-seam, drop-append-seam}
+use Rattle.words.proofs.Laws.Clipped.{take-clipped, drop-clipped}
 use Rattle.replay.specs.Script.{written, flag}
 
 -- An element that is there is read whatever stands for one past the end.
 pub getD-any : {A : Type 0} (l : List A) (k : ℕ) (d e : A) → k < length l → getD l k d ≡ getD l k e
 getD-any l k d e h = cc (drop-cons l k d h, drop-cons l k e h)
-
--- A count that is clipped takes and drops as much.
-module _ {A : Type 0} (n : ℕ) (l : List A) where
-  pub take-clipped : take (min n (length l)) l ≡ take n l
-  take-clipped = go (leb n (length l)) refl
-    where
-      go : (b : Bool) → leb n (length l) ≡ b → take (min n (length l)) l ≡ take n l
-      go true e =
-          let h : min n (length l) ≡ n = omega (arith, leb-true n (length l) e) in
-          ap (λ (k : ℕ). take k l) h
-      go false e =
-          let h : length l < n = leb-false n (length l) e in
-          take-all (min n (length l)) l (omega arith) ∙ sym (take-all n l (omega arith))
-
-  pub drop-clipped : drop (min n (length l)) l ≡ drop n l
-  drop-clipped = go (leb n (length l)) refl
-    where
-      go : (b : Bool) → leb n (length l) ≡ b → drop (min n (length l)) l ≡ drop n l
-      go true e =
-          let h : min n (length l) ≡ n = omega (arith, leb-true n (length l) e) in
-          ap (λ (k : ℕ). drop k l) h
-      go false e =
-          let h : length l < n = leb-false n (length l) e in
-          drop-of-length-le l {i = min n (length l)} (omega arith) ∙ sym (drop-of-length-le l {i = n} (omega arith))
 
 -- A part whose start and size are clipped.
 pub part-clipped : (l : List ℕ) (from most start size : ℕ) → start ≡ min from (length l) → size ≡ min most (length l - start)

@@ -15,7 +15,7 @@ use Rattle.replay.specs.declared.calls.Given.{Given}
 use Rattle.replay.specs.Calls.{meant, queryOf, listingOf, answerOf, givenAnswer, Kept, Named, CallMeets}
 use Rattle.replay.specs.Script.{noFloat, colourAt, firstCalls, callIn, sheetIn, wants, lentOf, stepCall, answerWords, written}
 use Rattle.replay.specs.Replayed.{NamedAnswer, Stepped}
-use Rattle.replay.proofs.Laws.Parts.{take-clipped}
+use Rattle.words.proofs.Laws.Clipped.{take-clipped}
 
 -- The call that word 0 chooses.
 module _ (words : List ℕ) (floats : List Float) where

@@ -33,9 +33,9 @@ module _ (s : List ℕ) (at w n : ℕ) (room : at + w + 1 ≤ length s) where
   last-length : length (number ++ (newline ∷ [])) ≡ w + 1
   last-length = length-append number (newline ∷ []) ∙ omega (arith, column-length w n)
 
-  pub last-put : (t : List ℕ) → t ≡ putAt at number s → set t (at + w) newline ≡ putAt at (number ++ (newline ∷ [])) s
+  pub number-line-put : (t : List ℕ) → t ≡ putAt at number s → set t (at + w) newline ≡ putAt at (number ++ (newline ∷ [])) s
   unfolding putAt
-  last-put t e =
+  number-line-put t e =
       let p : List ℕ = take at s ++ number in
       let end : length p ≡ at + w = length-append (take at s) number ∙ omega (arith, length-take-le at s (omega arith), column-length w n) in
       let so-far : t ≡ p ++ drop (at + w) s = e ∙ rw (column-length w n, append-assoc) in

@@ -1,7 +1,7 @@
 -- The tags of the order, by a box of all colours.
 use Prim.Native.Nat.{ℕ, _+_, _^_, _≤_}
-use mathlib.Core.Bool.{Bool, true}
-use mathlib.Core.List.{List, [], _∷_, _++_, map}
+use mathlib.Core.Bool.{true}
+use mathlib.Core.List.{List, _++_, map}
 use mathlib.Core.Path.{_≡_, refl, sym, ap, _∙_}
 use native.Mathlib.Omega.{arith}
 use lib.ListN.{length, take, drop, length-map, length-append}
@@ -15,10 +15,8 @@ use Rattle.colour.specs.Octant.{depths}
 use Rattle.colour.specs.Region.{holds, inside}
 use Rattle.colour.specs.Computes.{colourComputes}
 use Rattle.colour.proofs.Laws.Extremes.{inside-all}
-use Rattle.model.specs.Lists.{keep}
 use Rattle.model.specs.SampleSet.{placed, order}
-use Rattle.model.specs.Layout.{current}
-use Rattle.model.specs.Layout.{sampleHeader, sampleWidth, sampleRows}
+use Rattle.model.specs.Layout.{sampleHeader, sampleWidth, sampleRows, current}
 use Rattle.model.specs.Tables.{Tables, pair}
 use Rattle.model.specs.Queries.{tagOf, listed}
 use Rattle.model.specs.Machine.{Machine, Answer, listAnswer, nearestAnswer, plain, startOn}
@@ -35,14 +33,8 @@ use Rattle.listing.proofs.Laws.Answers.Answered.{pass-fits}
 use Rattle.tag_list.specs.Printed.{Fits}
 use borrow.Author.Tests.{le-leb}
 use Rattle.model.proofs.Tree.Cubes.{Reached, whole, lies}
-use Rattle.traversal.proofs.Laws.Sound.Each.{All, all-order, all-then}
+use Rattle.traversal.proofs.Laws.Sound.Each.{all-order, all-then, keep-passed}
 use Rattle.traversal.proofs.Laws.Sound.Standing.{all-lie}
-
--- Where all pass a test, all are kept.
-keep-passed : {A : Type 0} (p : A → Bool) (xs : List A) → All (λ x. p x ≡ true) xs → keep p xs ≡ xs
-unfolding All keep
-keep-passed p [] h = refl
-keep-passed p (x ∷ xs) h = rw (h .0, keep) (ap (λ (l : List _). x ∷ l) (keep-passed p xs (h .1)))
 
 -- A colour with one code in each channel.
 abbrev pub grey : ℕ → Colour

@@ -1,18 +1,17 @@
 -- What is printed: the tags of the order, or the refusal.
-use Prim.Native.Nat.{ℕ, _*_, min, _≤_, _<_}
+use Prim.Native.Nat.{ℕ, _*_, min, _≤_}
 use mathlib.Core.Bool.{Bool, true, false}
 use mathlib.Core.List.{List, _++_, map}
-use mathlib.Core.Path.{_≡_, refl, sym, ap, subst, _∙_}
+use mathlib.Core.Path.{_≡_, sym, ap, subst, _∙_}
 use native.Mathlib.Omega.{arith}
-use borrow.Author.Tests.{leb-true, leb-false, eq-eqb, ne-eqb}
-use lib.Dec.{leb}
+use borrow.Author.Tests.{eq-eqb, ne-eqb}
 use lib.ListN.{length, take, drop, length-append}
-use lib.Seq.{take-all}
 use Rattle.model.specs.SampleSet.{order}
 use Rattle.model.specs.Tables.{Tables}
 use Rattle.model.specs.Queries.{tagOf}
 use Rattle.model.specs.Machine.{Outcome, Load, step}
 use Rattle.model.specs.Walklist.{walklistStart, tagLines, refusedLine, printedAfter, walklistPrints}
+use Rattle.words.proofs.Laws.Clipped.{take-clipped}
 use Rattle.tag_list.specs.Printed.{Printed, OrderPrinted, SheetLoaded}
 use Rattle.tag_list.proofs.Laws.Lines.{lines-length, refusal-length}
 use Rattle.tag_list.proofs.Laws.Order.{Ordered}
@@ -22,21 +21,9 @@ use Rattle.tag_list.proofs.Laws.Loading.{loaded-shows}
 pub printed-within : {bytes before after : List ℕ} {n : ℕ} → Printed bytes before after n → n ≤ length after
 printed-within {bytes} {before} {after} {n} p = omega (arith, p .count, ap length (p .text), length-append bytes (drop n before))
 
--- A sheet that is cut at the lesser of its length and a number is cut at that number.
-take-least : (input : List ℕ) (most : ℕ) → take (min (length input) most) input ≡ take most input
-take-least input most = go (leb (length input) most) refl
-  where
-    go : (b : Bool) → leb (length input) most ≡ b → take (min (length input) most) input ≡ take most input
-    go true e =
-        let short : length input ≤ most = leb-true (length input) most e in
-        take-all (min (length input) most) input (omega arith) ∙ sym (take-all most input short)
-    go false e =
-        let long : most < length input = leb-false (length input) most e in
-        let cut : min (length input) most ≡ most = omega arith in
-        ap (λ (k : ℕ). take k input) cut
-
-pub cut-loaded : (input : List ℕ) (k n : ℕ) (t : Tables) → k ≡ min (length input) 32768 → SheetLoaded (take k input) n t → SheetLoaded (take 32768 input) n t
-cut-loaded input k n t e h = subst (λ (sheet : List ℕ). SheetLoaded sheet n t) (ap (λ (i : ℕ). take i input) e ∙ take-least input 32768) h
+-- A sheet that is cut where the input ends, or at 32,768 bytes.
+pub cut-loaded : (input : List ℕ) (k n : ℕ) (t : Tables) → k ≡ min 32768 (length input) → SheetLoaded (take k input) n t → SheetLoaded (take 32768 input) n t
+cut-loaded input k n t e h = subst (λ (sheet : List ℕ). SheetLoaded sheet n t) (ap (λ (i : ℕ). take i input) e ∙ take-clipped 32768 input) h
 
 -- Lines of the tags of the order.
 pub order-printed : (t : Tables) (listing before after : List ℕ) (n : ℕ) → Ordered t listing n

@@ -23,8 +23,8 @@ slice-aggregate-put-left-2 c = search needs
 put-left-requires : tie.Need-put-left-requires
 put-left-requires c κs = omega (arith, length-take-le 7 (c .before .before .before .args .text .now) (omega (arith, c .before .before .before .pre)))
 
-put-last-requires : tie.Need-put-last-requires
-put-last-requires c κs = search needs
+put-number-line-requires : tie.Need-put-number-line-requires
+put-number-line-requires c κs = search needs
 
 same-length : tie.Need-same-length
 same-length c = search needs
@@ -35,7 +35,7 @@ returns c =
     let name = c .before .before .before .before .before .before .put-left in
     let word : List ℕ = 82 ∷ 69 ∷ 70 ∷ 85 ∷ 83 ∷ 69 ∷ 68 ∷ [] in
     let size : length (take 7 (a .args .text .now)) ≡ 7 = length-take-le 7 (a .args .text .now) (omega (arith, a .pre)) in
-    refusal-put (a .args .text .now) _ (name .last .0) _ _ (a .pre) (name .ensures ∙ ap (λ (k : ℕ). word ++ replicate (k - 7) blank) size) refl (c .before .before .put-last .ensures)
+    refusal-put (a .args .text .now) _ (name .last .0) _ _ (a .pre) (name .ensures ∙ ap (λ (k : ℕ). word ++ replicate (k - 7) blank) size) refl (c .before .before .put-number-line .ensures)
 
 pub put-refusal-spec : {M : Type 1} → statement M
 put-refusal-spec =
@@ -45,6 +45,6 @@ put-refusal-spec =
     slice-aggregate-put-left
     slice-aggregate-put-left-2
     put-left-requires
-    put-last-requires
+    put-number-line-requires
     same-length
     returns)

@@ -21,17 +21,17 @@ loop-holds : tie.Need-loop-holds Inv-loop μ-loop
 unfolding tagLines
 loop-holds c = (omega arith, refl, refl)
 
-mul-put-last : tie.Need-mul-put-last Inv-loop μ-loop
-mul-put-last c = search needs
+mul-put-number-line : tie.Need-mul-put-number-line Inv-loop μ-loop
+mul-put-number-line c = search needs
 
-mul-put-last-2 : tie.Need-mul-put-last-2 Inv-loop μ-loop
-mul-put-last-2 c = search needs
+mul-put-number-line-2 : tie.Need-mul-put-number-line-2 Inv-loop μ-loop
+mul-put-number-line-2 c = search needs
 
-shared-slice-read-put-last : tie.Need-shared-slice-read-put-last Inv-loop μ-loop
-shared-slice-read-put-last c = search needs
+shared-slice-read-put-number-line : tie.Need-shared-slice-read-put-number-line Inv-loop μ-loop
+shared-slice-read-put-number-line c = search needs
 
-put-last-requires : tie.Need-put-last-requires Inv-loop μ-loop
-put-last-requires c κs =
+put-number-line-requires : tie.Need-put-number-line-requires Inv-loop μ-loop
+put-number-line-requires c κs =
     let l = c .before .before .before in omega (arith, l .before .before .before .pre, l .loop .inv .1)
 
 add-i : tie.Need-add-i Inv-loop μ-loop
@@ -44,7 +44,7 @@ loop-again : tie.Need-loop-again Inv-loop μ-loop
 unfolding tagColumns
 loop-again c =
     let l = c .before .before .before .before .before .before in
-    let put = c .before .before .put-last in (
+    let put = c .before .before .put-number-line in (
       omega arith,
       put .kept .0 ∙ l .loop .inv .1,
       put .ensures ∙ tags-more _ _ (l .loop .i) (omega arith) (l .loop .text) (l .loop .inv .2),
@@ -63,10 +63,10 @@ put-tags-spec =
     Inv-loop
     μ-loop
     loop-holds
-    mul-put-last
-    mul-put-last-2
-    shared-slice-read-put-last
-    put-last-requires
+    mul-put-number-line
+    mul-put-number-line-2
+    shared-slice-read-put-number-line
+    put-number-line-requires
     add-i
     loop-less
     loop-again

@@ -2,7 +2,7 @@
 use Prim.Native.Nat.{ℕ, zero, suc, _<_}
 use mathlib.Core.Bool.{Bool, true, false}
 use mathlib.Core.List.{List, [], _∷_, _++_}
-use mathlib.Core.Path.{_≡_, refl}
+use mathlib.Core.Path.{_≡_, refl, ap}
 use native.Mathlib.Omega.{arith}
 use lib.Dec.{eqb}
 use Rattle.colour.specs.Octant.{children, childNumber}
@@ -28,6 +28,12 @@ pub keep-refused : {A : Type 0} (p : A → Bool) (xs : List A) → All (λ x. p 
 unfolding All keep
 keep-refused p [] h = refl
 keep-refused p (x ∷ xs) h = rw (h .0, keep) (keep-refused p xs (h .1))
+
+-- Where all pass a test, all are kept.
+pub keep-passed : {A : Type 0} (p : A → Bool) (xs : List A) → All (λ x. p x ≡ true) xs → keep p xs ≡ xs
+unfolding All keep
+keep-passed p [] h = refl
+keep-passed p (x ∷ xs) h = rw (h .0, keep) (ap (λ (l : List _). x ∷ l) (keep-passed p xs (h .1)))
 
 -- What follows from it holds too.
 pub all-then : {A : Type 0} (P Q : A → Type 0) → ((x : A) → P x → Q x) → (xs : List A) → All P xs → All Q xs
