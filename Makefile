@@ -15,6 +15,7 @@
 all:
 	@rt check
 	@$(MAKE) --no-print-directory lib
+	@echo "Proved. lib/libhubeltxa.a and target/bin/walklist are built."
 
 lib:
 	@rt staticlib hubeltxa

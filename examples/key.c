@@ -3,10 +3,10 @@
 #include "hubeltxa.h"
 
 #define ROWS 512        /* samples that the set can hold */
-#define OCTANTS 512     /* as many as samples: usually enough with bucket size 16; 17 for each sample always are */
+#define OCTANTS 512     /* as many as samples: usually enough for bucket size 16; 17 for each sample always are */
 
-static uint32_t samples[2 + 5 * ROWS], octants[1 + 11 * OCTANTS], tags[ROWS];
-#define TABLES samples, 2 + 5 * ROWS, octants, 1 + 11 * OCTANTS
+static uint32_t samples[HBX_SAMPLE_WORDS(ROWS)], octants[HBX_OCTANT_WORDS(OCTANTS)], tags[ROWS];
+#define TABLES samples, HBX_SAMPLE_WORDS(ROWS), octants, HBX_OCTANT_WORDS(OCTANTS)
 
 static const uint8_t sheet[] =
     "SWATCHES     3\n"
@@ -45,10 +45,10 @@ int main(void)
 {
     uint32_t number, taken;
 
-    if (hbx_clear(TABLES, 16) != 0)     /* always first: it makes the tables an empty set, whatever they held */
+    if (hbx_clear(TABLES, 16) != HBX_ACCEPTED)  /* always first: the tables become an empty set, whatever they held */
         return 1;
     number = hbx_load(TABLES, sheet, sheet_length, &taken);
-    if (number != 0) {
+    if (number != HBX_ACCEPTED) {
         printf("the sheet is refused by %u after %u lines\n", number, taken);
         return 1;
     }
@@ -56,6 +56,7 @@ int main(void)
     key(9500, 46000, 11500, 0.02f);
     key(52000, 38000, 31000, 0.02f);    /* a face */
     key(9100, 44900, 70000, 0.02f);     /* no code */
-    printf("added again: %u\n", hbx_add(TABLES, 12, 0, 0, 0));
+    if (hbx_add(TABLES, 12, 0, 0, 0) == HBX_KNOWN_TAG)
+        printf("12 is there already\n");
     return 0;
 }

@@ -26,6 +26,26 @@
 extern "C" {
 #endif
 
+/* The numbers that calls return. Each call's comment says which it can give, and what each means
+ * there; README says what to do about it.
+ */
+enum {
+    HBX_ACCEPTED = 0,
+    HBX_TOO_SHORT = 1,      /* a table is too short to be one */
+    HBX_UNSOUND = 2,        /* the tables are not sound */
+    HBX_BUCKET = 3,         /* a bucket size not from 1 to 256 */
+    HBX_CODE = 4,           /* a code over 65,535 */
+    HBX_KNOWN_TAG = 5,      /* the tag is there already */
+    HBX_NO_ROW = 6,         /* no sample row is unused */
+    HBX_NO_OCTANTS = 7,     /* too few octant rows */
+    HBX_UNKNOWN_TAG = 8,    /* the tag is not there */
+    HBX_OUT_OF_RANGE = 9,   /* a float out of range, or a box that is reversed */
+    HBX_NAME = 10,          /* a name that is not good */
+    HBX_HEADER = 11,        /* a header that is not good */
+    HBX_LINE = 12,          /* a line that is not good */
+    HBX_NO_ROOM = 13        /* too few bytes or words lent to write on */
+};
+
 /* The codes of a panel colour. The code of a channel v is the greatest whole k with
  * k <= 65,536 * v. A channel is good when 0 <= v < 1; minus zero counts as zero.
  *
@@ -108,7 +128,11 @@ void hbx_name(const uint8_t *sheet, size_t sheet_len, uint32_t tag, size_t *star
  * the row of the sample that follows in it, the sample count for the last.
  *
  * Tables are sound when they are exactly those of some set.
+ *
+ * The words of a table with so many rows. 17 octant rows for each sample are always enough.
  */
+#define HBX_SAMPLE_WORDS(rows) (2 + 5 * (size_t)(rows))
+#define HBX_OCTANT_WORDS(rows) (1 + 11 * (size_t)(rows))
 
 /* Writes the tables of the empty set with this bucket size, whatever words they held.
  *
@@ -121,14 +145,14 @@ uint32_t hbx_clear(uint32_t *samples, size_t samples_len, uint32_t *octants, siz
                    uint32_t bucket);
 
 /* Whether the tables are sound: 1 yes, 0 no. Every word is looked at. Tables that are too short are
- * not sound. The call needs less than 80,000 bytes of stack.
+ * not sound. 80,000 bytes of stack are enough for the call (measured, not proved).
  */
 uint32_t hbx_check(const uint32_t *samples, size_t samples_len, const uint32_t *octants,
                    size_t octants_len);
 
 /* The next three calls change a set. Each looks at every word of both tables first, as hbx_check
- * does, and then leaves exactly the tables of the set as it has become. Each needs less than 80,000
- * bytes of stack.
+ * does, and then leaves exactly the tables of the set as it has become. 80,000 bytes of stack are
+ * enough for each (measured, not proved).
  */
 
 /* Adds a sample at the end of the set.
@@ -178,7 +202,7 @@ uint32_t hbx_load(uint32_t *samples, size_t samples_len, uint32_t *octants, size
 /* A query lists the tags of the samples in a region, in the order of the samples, or finds the
  * nearest one. A ball is a panel colour, its centre, and a radius; a box is a low and a high panel
  * colour. All floats are taken as codes, by the rule of hbx_codes; a radius is good when
- * 0 <= radius < 2.
+ * 0 <= radius < 2, so that r is 0 to 131,071. (Where r is 0 nothing is in the ball.)
  *
  *     ball   samples with d^2 < r^2: d^2 is the sum of the three squared differences between the
  *            codes of sample and centre, r the radius as a code
@@ -194,12 +218,13 @@ uint32_t hbx_load(uint32_t *samples, size_t samples_len, uint32_t *octants, size
  * written where it holds all.
  *
  * A query does not ask whether the tables are sound: that would cost more than the query. On tables
- * that are not, nothing dangerous happens: the call ends, and soon. A pass enters at most as many
+ * that are not, nothing dangerous happens, and the call ends. A pass enters at most as many
  * octants as octants[0] says, and as there are rows, and goes through at most as many samples as
  * samples[0] says, and as there are rows. Nothing is written but the listing, up to *listed, and the
  * three reports. But the listing then means nothing: call hbx_check where in doubt.
  *
- * The three calls only read the tables. Each needs less than 8,000 bytes of stack.
+ * The three calls only read the tables. 8,000 bytes of stack are enough for each (measured, not
+ * proved).
  */
 
 /* Lists the samples in a ball.
@@ -235,8 +260,8 @@ uint32_t hbx_box(const uint32_t *samples, size_t samples_len, const uint32_t *oc
  * Where a sample is found, *found gets 1, *tag its tag and *distance its d^2. Where none is in the
  * ball all three get 0. (Tag 0 at d^2 0 can be a find.)
  *
- * Nor does this query ask whether the tables are sound. On tables that are not, it ends as soon, by
- * the same bounds on octants and samples, and what it finds means nothing.
+ * Nor does this query ask whether the tables are sound. On tables that are not, it ends by the same
+ * bounds on octants and samples, and what it finds means nothing.
  *
  * Returns 0 where it has looked. Otherwise the three words get 0, and the first of these that is so
  * gives the number:
