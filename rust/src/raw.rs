@@ -11,7 +11,7 @@ extern "C" {
     /// The codes of a panel colour; see [`codes`](crate::codes).
     ///
     /// # Safety
-    /// The pointers must be good for writes, and no two may be the same.
+    /// The pointers must be aligned and good for writes, and no two may be the same.
     pub fn hbx_codes(
         red: f32,
         green: f32,
@@ -24,7 +24,7 @@ extern "C" {
     /// A colour as panel floats; see [`floats`](crate::floats).
     ///
     /// # Safety
-    /// The pointers must be good for writes, and no two may be the same.
+    /// The pointers must be aligned and good for writes, and no two may be the same.
     pub fn hbx_floats(
         red: u32,
         green: u32,
@@ -55,22 +55,22 @@ extern "C" {
     ///
     /// # Safety
     /// `sheet` must be good for reads of `sheet_len` bytes, and not null, not even where that is
-    /// 0. The other pointers must be good for writes. No two of the three may overlap.
+    /// 0. The other pointers must be aligned and good for writes. No two of the three may overlap.
     pub fn hbx_name(sheet: *const u8, sheet_len: usize, tag: u32, start: *mut usize, length: *mut usize);
 
     /// Writes the tables of the empty set; see [`clear`](crate::lent::clear). A length is in words.
     ///
     /// # Safety
     /// `samples` must be good for reads and writes of `samples_len` words and `octants` of
-    /// `octants_len`; the two may not overlap, and neither may be null, not even where its length
-    /// is 0.
+    /// `octants_len`; the two may not overlap. Each must be aligned and not null, even where its
+    /// length is 0.
     pub fn hbx_clear(samples: *mut u32, samples_len: usize, octants: *mut u32, octants_len: usize, bucket: u32) -> u32;
 
     /// 1 where the tables are sound, 0 where not; see [`check`](crate::lent::check). A length is in words.
     ///
     /// # Safety
-    /// `samples` must be good for reads of `samples_len` words and `octants` of `octants_len`, and
-    /// neither may be null, not even where its length is 0.
+    /// `samples` must be good for reads of `samples_len` words and `octants` of `octants_len`. Each
+    /// must be aligned and not null, even where its length is 0.
     pub fn hbx_check(samples: *const u32, samples_len: usize, octants: *const u32, octants_len: usize) -> u32;
 
     /// Adds a sample; see [`add`](crate::lent::add). A length is in words.
@@ -99,7 +99,8 @@ extern "C" {
     ///
     /// # Safety
     /// As of [`hbx_clear`]. `sheet` must be good for reads of `sheet_len` bytes, and not null, not
-    /// even where that is 0; `taken` must be good for writes. No two of the four may overlap.
+    /// even where that is 0; `taken` must be aligned and good for writes. No two of the four may
+    /// overlap.
     pub fn hbx_load(
         samples: *mut u32,
         samples_len: usize,
@@ -114,8 +115,9 @@ extern "C" {
     ///
     /// # Safety
     /// `samples` must be good for reads of `samples_len` words, `octants` of `octants_len`, and
-    /// `listing` for reads and writes of `listing_len`; none may be null, not even where its length is
-    /// 0. The last three pointers must be good for writes. What is written may not overlap anything else.
+    /// `listing` for reads and writes of `listing_len`; each must be aligned and not null, even where
+    /// its length is 0. The last three pointers must be aligned and good for writes. What is written
+    /// may not overlap anything else.
     pub fn hbx_ball(
         samples: *const u32,
         samples_len: usize,
@@ -157,9 +159,9 @@ extern "C" {
     /// Finds the nearest sample; see [`nearest`](crate::lent::nearest). A length is in words.
     ///
     /// # Safety
-    /// `samples` must be good for reads of `samples_len` words and `octants` of `octants_len`, and
-    /// neither may be null, not even where its length is 0. The last three pointers must be good for
-    /// writes. What is written may not overlap anything else.
+    /// `samples` must be good for reads of `samples_len` words and `octants` of `octants_len`; each
+    /// must be aligned and not null, even where its length is 0. The last three pointers must be
+    /// aligned and good for writes. What is written may not overlap anything else.
     pub fn hbx_near(
         samples: *const u32,
         samples_len: usize,
