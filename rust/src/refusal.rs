@@ -35,10 +35,11 @@ pub enum Refusal {
     /// A sample of the set, or of an earlier line of the sheet, has the tag. Take another tag, or remove that sample
     /// first.
     KnownTag = 5,
-    /// No sample row is unused. Remove samples, or take a longer sample table, up to 4,096 rows.
+    /// No sample row is unused. Remove samples, or make room for more, up to 4,096:
+    /// [`reserve`](crate::SampleSet::reserve) in a set, a longer sample table where it is lent.
     NoRow = 6,
-    /// Too few octant rows for the set with the sample. Take a longer octant table, or clear with a larger bucket size
-    /// and load again.
+    /// Too few octant rows for the set with the sample. Make room for more: [`reserve`](crate::SampleSet::reserve) in a
+    /// set, a longer octant table where it is lent. Or clear with a larger bucket size and load again.
     NoOctants = 7,
     /// No sample of the set has the tag. Nothing to do: it is not there.
     UnknownTag = 8,

@@ -25,10 +25,11 @@ pub struct Sample {
 
 /// A set of samples with the two tables that it stands in.
 ///
-/// Only the library's calls write the tables, so they are always sound: no method here gives
-/// [`TooShort`](Refusal::TooShort) or [`Unsound`](Refusal::Unsound). A query takes the listing as a `Vec`, which it
-/// lengthens where it has fewer words than the set has samples, so none gives [`NoRoom`](Refusal::NoRoom) either, and
-/// each is one pass. Lend the same `Vec` again and again: it is lengthened no more than the set grows.
+/// Only the library's calls write the tables, and [`reserve`](SampleSet::reserve) puts zeros after them, so they are
+/// always sound: no method here gives [`TooShort`](Refusal::TooShort) or [`Unsound`](Refusal::Unsound). A query takes
+/// the listing as a `Vec`, which it lengthens where it has fewer words than the set has samples, so none gives
+/// [`NoRoom`](Refusal::NoRoom) either, and each is one pass. Lend the same `Vec` again and again: it is lengthened no
+/// more than the set grows.
 ///
 /// Queries take `&self`, so several threads may ask one set at once. [`add`](SampleSet::add),
 /// [`remove`](SampleSet::remove) and [`load`](SampleSet::load) look at every word of both tables, and need less than
@@ -55,8 +56,8 @@ pub struct Sample {
 /// ```
 #[derive(Clone, PartialEq, Eq)]
 pub struct SampleSet {
-    samples: Box<[u32]>,
-    octants: Box<[u32]>,
+    samples: Vec<u32>,
+    octants: Vec<u32>,
 }
 
 impl SampleSet {
@@ -85,7 +86,8 @@ impl SampleSet {
     ///
     /// Rows that no set can use are not made: the set has 4,096 sample rows and 17 * 4,096 octant rows at most.
     /// [`capacity`](SampleSet::capacity) says how many samples there is room for. How many octants a set needs depends
-    /// on its colours; [`for_samples`](SampleSet::for_samples) makes enough for any.
+    /// on its colours; [`for_samples`](SampleSet::for_samples) makes enough for any, and
+    /// [`reserve`](SampleSet::reserve) makes more later.
     ///
     /// # Errors
     /// [`Refusal::Bucket`] (3) where the bucket size is not from 1 to 256.
@@ -100,18 +102,13 @@ impl SampleSet {
     /// # Ok::<(), Refusal>(())
     /// ```
     pub fn new(sample_rows: usize, octant_rows: usize, bucket: u32) -> Result<Self, Refusal> {
-        let sample_rows = sample_rows.min(Self::MOST_SAMPLES);
-        let octant_rows = octant_rows.min(Self::OCTANTS_PER_SAMPLE * Self::MOST_SAMPLES);
-        let words = |length: usize| vec![0; length].into_boxed_slice();
-        let mut set = SampleSet {
-            samples: words(lent::sample_words(sample_rows)),
-            octants: words(lent::octant_words(octant_rows)),
-        };
+        let mut set = SampleSet { samples: vec![0; lent::sample_words(0)], octants: vec![0; lent::octant_words(0)] };
+        set.reserve(sample_rows, octant_rows);
         set.clear(bucket)?;
         Ok(set)
     }
 
-    /// An empty set with room for so many samples of any colours, 4,096 at most: it never gives
+    /// An empty set with room for so many samples of any colours, 4,096 at most: with these rows it never gives
     /// [`NoOctants`](Refusal::NoOctants). That takes 17 octants a sample, 768 bytes with the sample's own row; a set of
     /// usual colours with a bucket size of 16 needs far fewer: see [`new`](SampleSet::new).
     ///
@@ -125,6 +122,44 @@ impl SampleSet {
     /// ```
     pub fn for_samples(samples: usize, bucket: u32) -> Result<Self, Refusal> {
         Self::new(samples, samples.saturating_mul(Self::OCTANTS_PER_SAMPLE), bucket)
+    }
+
+    /// Makes room for so many samples and so many octants in all, with those of the set, which stays as it is. Room
+    /// that there is already is never given up, and rows that no set can use are not made, as in
+    /// [`new`](SampleSet::new).
+    ///
+    /// It is for a set that refused a sample by [`NoRow`](Refusal::NoRow) or [`NoOctants`](Refusal::NoOctants):
+    /// reserve, and add it again. 17 octants for each sample are always enough. A load keeps the lines before the one
+    /// that it refused, so go on with a sheet of the lines from [`line`](RefusedLoad::line) on.
+    ///
+    /// ```
+    /// use hubeltxa::{Refusal, SampleSet, HEADER_LENGTH, LINE_LENGTH};
+    ///
+    /// let sheet = b"SWATCHES     3\n\
+    ///               \x20        7     0     0     0 A001                            \n\
+    ///               \x20        8 65535 65535 65535 A002                            \n\
+    ///               \x20        9     0     0     0 A001                            \n";
+    /// let mut set = SampleSet::new(1, 17, 2)?;
+    /// if let Err(refused) = set.load(sheet) {
+    ///     assert_eq!((refused.refusal, refused.line()), (Refusal::NoRow, Some(1)));
+    ///     let rest = &sheet[HEADER_LENGTH + LINE_LENGTH * refused.taken as usize..];
+    ///     let lines = rest.len() / LINE_LENGTH;
+    ///     let samples = set.len() + lines;
+    ///     set.reserve(samples, samples * SampleSet::OCTANTS_PER_SAMPLE);
+    ///     assert_eq!((set.capacity(), set.octant_capacity()), (3, 51));
+    ///
+    ///     let rest = [format!("SWATCHES{lines:>6}\n").as_bytes(), rest].concat();
+    ///     assert_eq!(set.load(&rest), Ok(2));
+    /// }
+    /// assert!(set.samples().map(|sample| sample.tag).eq([7, 8, 9]));
+    /// # Ok::<(), Refusal>(())
+    /// ```
+    pub fn reserve(&mut self, samples: usize, octants: usize) {
+        let samples = samples.min(Self::MOST_SAMPLES);
+        let octants = octants.min(Self::OCTANTS_PER_SAMPLE * Self::MOST_SAMPLES);
+        // Every word of the tables that no row of the set uses is 0, so with more zeros they are the same set's.
+        lengthen(&mut self.samples, lent::sample_words(samples));
+        lengthen(&mut self.octants, lent::octant_words(octants));
     }
 
     /// How many samples are in the set.
@@ -159,7 +194,7 @@ impl SampleSet {
         self.samples[1]
     }
 
-    /// How many samples there is room for, with those that are in the set.
+    /// How many samples there is room for, with those that are in the set; [`reserve`](SampleSet::reserve) makes more.
     ///
     /// ```
     /// assert_eq!(hubeltxa::SampleSet::for_samples(100, 16)?.capacity(), 100);
@@ -183,7 +218,7 @@ impl SampleSet {
         self.octants[0] as usize
     }
 
-    /// How many octants there is room for, with those of the set.
+    /// How many octants there is room for, with those of the set; [`reserve`](SampleSet::reserve) makes more.
     ///
     /// ```
     /// assert_eq!(hubeltxa::SampleSet::new(100, 300, 16)?.octant_capacity(), 300);
@@ -426,11 +461,14 @@ impl SampleSet {
 
     /// A listing that has a word for each sample at least, so that a query holds all and is one pass.
     fn lengthened<'a>(&self, listing: &'a mut Vec<u32>) -> &'a mut [u32] {
-        if listing.len() < self.len() {
-            listing.resize(self.len(), 0);
-        }
+        lengthen(listing, self.len());
         listing
     }
+}
+
+/// Zeros after the words, where there are fewer words than that.
+fn lengthen(words: &mut Vec<u32>, length: usize) {
+    words.resize(words.len().max(length), 0);
 }
 
 /// How much is in the set, and room for how much: of the tables themselves there can be hundreds of thousands of words.

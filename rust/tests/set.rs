@@ -1,5 +1,6 @@
-//! The set that owns its tables, compared with the straight scan: random sequences of all seven calls, every answer
-//! with the whole listing, every word of both tables, and all else that the set says of itself.
+//! The set that owns its tables, compared with the straight scan: random sequences of all seven calls with more room
+//! reserved between them, every answer with the whole listing, every word of both tables, and all else that the set
+//! says of itself.
 //!
 //! `cargo test --release` takes some seconds. Each test prints how many calls it compared, by call and number, which
 //! `--show-output` shows.
@@ -56,6 +57,16 @@ impl Compare {
         self.same(&what);
         compared.count(call, true, answer.number);
         answer
+    }
+
+    /// More room in the set; the straight scan's tables are as long where that is more than there was, and can be used.
+    fn reserve(&mut self, samples: usize, octants: usize) {
+        let bin = &mut self.scanned;
+        bin.sample_words = bin.sample_words.max(2 + 5 * samples.min(MOST));
+        bin.octant_words = bin.octant_words.max(1 + 11 * octants.min(17 * MOST));
+        let what = format!("room for {samples} samples and {octants} octants in {:?}", self.set);
+        self.set.reserve(samples, octants);
+        self.same(&what);
     }
 
     /// Every word of both tables, and all that the set says of itself, is the straight scan's.
@@ -126,10 +137,20 @@ fn any(compare: &Compare, colours: &[Codes], growing: bool, state: &mut u64) -> 
     }
 }
 
-/// Every call gave each of its numbers but 1, 2 and 13, which a set that owns its tables never gives.
+/// As much room as there is, less, or a little more: of samples, and of octants.
+fn any_room(set: &SampleSet, state: &mut u64) -> (usize, usize) {
+    let mut near = |now: usize, more: usize| match below(4, state) {
+        0 => below(now + 1, state),
+        _ => now + below(more, state),
+    };
+    (near(set.capacity(), 4), near(set.octant_capacity(), 20))
+}
+
+/// Every call gave each of its numbers but 1, 2 and 13, which a set that owns its tables never gives. Some calls that
+/// were refused by 6, and some by 7, are accepted again after more room was reserved.
 #[test]
 fn sequences_of_calls() {
-    let (mut compared, state) = (Compared::default(), &mut 1);
+    let (mut compared, mut helped, state) = (Compared::default(), [0; 14], &mut 1);
     for (kind, bucket) in (0..12 * 5).flat_map(|kind| SIZES.map(|bucket| (kind % 5, bucket))) {
         let colours = pool(300, state);
         let (rows, octants) = any_rows(kind, &colours, bucket, state);
@@ -138,10 +159,42 @@ fn sequences_of_calls() {
         for _ in 0..200 {
             growing ^= below(40, state) == 0;
             let call = any(&compare, &colours, growing, state);
-            compare.call(&mut compared, &call);
+            let number = compare.call(&mut compared, &call).number;
+            if below(if matches!(number, 6..=7) { 4 } else { 100 }, state) == 0 {
+                let (samples, octants) = any_room(&compare.set, state);
+                compare.reserve(samples, octants);
+                let again = compare.call(&mut compared, &call).number;
+                helped[number as usize] += usize::from(again == 0);
+            }
         }
     }
     compared.print_all_seen_but(&[1, 2, 13], "sequences of calls", ALL_SEVEN);
+    println!("accepted with more room: {} that were refused by 6, {} by 7", helped[6], helped[7]);
+    assert!(helped[6] > 0 && helped[7] > 0);
+}
+
+/// No room is given up, none is made that no set can use, and the set is the one that would have had the room from the
+/// first.
+#[test]
+fn room_reserved() {
+    let samples = tagged(close_pairs(40, 8));
+    let (rows, octants) = (samples.len(), exact(&samples, 1).octants());
+    let loaded = |rows: usize, octants: usize| {
+        let mut compare = Compare::new(rows, octants, 1);
+        assert_eq!(compare.call(&mut Compared::default(), &Call::Load(sheet(&samples))).number, 0);
+        compare
+    };
+    for more_samples in [0, rows - 1, rows, rows + 1, MOST, MOST + 1, usize::MAX] {
+        for more_octants in [0, octants - 1, octants, octants + 20, 17 * MOST, 17 * MOST + 1, usize::MAX] {
+            let mut compare = loaded(rows, octants);
+            compare.reserve(more_samples, more_octants);
+            let room = (more_samples.clamp(rows, MOST), more_octants.clamp(octants, 17 * MOST));
+            assert_eq!((compare.set.capacity(), compare.set.octant_capacity()), room);
+            assert_eq!(compare.set, loaded(room.0, room.1).set);
+            let number = compare.call(&mut Compared::default(), &Call::Add(u32::MAX, samples[0].codes)).number;
+            assert_eq!(number, if room.0 == rows { 6 } else { 0 }); // a colour of the set needs no octant of its own
+        }
+    }
 }
 
 /// The rows that no set can use are not made, and a set for so many samples holds any.
@@ -169,7 +222,10 @@ fn rows_for_any_samples() {
     }
     let one_too_many = sheet(&tagged(scattered(MOST + 1, 5)));
     let refused = RefusedLoad { refusal: Refusal::NoRow, taken: MOST as u32 };
-    assert_eq!(SampleSet::for_samples(MOST + 1, 16).unwrap().load(&one_too_many), Err(refused));
+    let mut set = SampleSet::for_samples(MOST + 1, 16).unwrap();
+    assert_eq!(set.load(&one_too_many), Err(refused));
+    set.reserve(usize::MAX, usize::MAX);
+    assert_eq!(set.add(u32::MAX, [0; 3]), Err(Refusal::NoRow));
 }
 
 #[test]
