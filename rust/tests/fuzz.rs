@@ -11,7 +11,7 @@
 //! leads there again.) At the end stands a table of the calls and of the numbers that they gave.
 //!
 //! `cargo test` goes through a fixed share. It fails where a number was not seen of a call that can give it, and so
-//! does a run of some seconds that went through as many rounds.
+//! does a run of some seconds that went through as many rounds. A run that made no call fails.
 
 #[path = "../../oracle/straight_scan.rs"]
 #[allow(dead_code)]
@@ -40,11 +40,11 @@ mod fuzz {
 }
 
 use fuzz::run::{run, Passed};
-use fuzz::wanted::{Rounds, Wanted, FIXED_ROUNDS};
+use fuzz::wanted::{Wanted, FIXED_ROUNDS};
 use std::process::ExitCode;
 
 /// Whether every number was seen, or the rounds were too few to ask.
-fn all_seen(wanted: Wanted, passed: &Passed) -> bool {
+fn all_seen(passed: &Passed) -> bool {
     println!("{}", passed.seen.table());
     println!("A check and a name give no number: they are counted under 0, by what they say.");
     let not_seen = passed.seen.not_seen();
@@ -53,9 +53,9 @@ fn all_seen(wanted: Wanted, passed: &Passed) -> bool {
         return true;
     }
     println!("Not seen: {}.", not_seen.join("; "));
-    let enough = passed.rounds >= FIXED_ROUNDS && !matches!(wanted.rounds, Rounds::One(_));
+    let enough = passed.rounds >= FIXED_ROUNDS;
     if !enough {
-        println!("That is no failure: {} rounds are too few to ask, {FIXED_ROUNDS} are enough.", passed.rounds);
+        println!("That is no failure: {FIXED_ROUNDS} rounds are enough to ask, fewer are not.");
     }
     !enough
 }
@@ -65,10 +65,16 @@ fn main() -> ExitCode {
     if std::env::args().any(|argument| argument == "--ignored" || argument == "--list") {
         return ExitCode::SUCCESS;
     }
-    let wanted = Wanted::from_environment();
+    let wanted = match Wanted::from_environment() {
+        Ok(wanted) => wanted,
+        Err(why) => {
+            eprintln!("{why}");
+            return ExitCode::FAILURE;
+        }
+    };
     println!("seed {}", wanted.seed);
     match run(wanted) {
-        Some(passed) if all_seen(wanted, &passed) => ExitCode::SUCCESS,
+        Some(passed) if all_seen(&passed) => ExitCode::SUCCESS,
         _ => ExitCode::FAILURE,
     }
 }

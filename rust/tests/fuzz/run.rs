@@ -51,12 +51,17 @@ fn rounds(wanted: Wanted, start: Instant, now: &Now) -> Result<Passed, ()> {
     Ok(Passed { rounds, seen })
 }
 
+/// So many rounds, in words.
+fn counted(rounds: u64) -> String {
+    format!("{rounds} round{}", if rounds == 1 { "" } else { "s" })
+}
+
 /// How far the rounds are.
 fn progress(wanted: Wanted, start: Instant, now: &Now) -> String {
     let (round, calls, time) = (now.round.load(Relaxed), now.calls.load(Relaxed), start.elapsed());
     let left = match wanted.rounds {
         Rounds::For(whole) => format!("{} s left", whole.saturating_sub(time).as_secs()),
-        _ => format!("{} rounds left", wanted.range().end - round),
+        _ => format!("{} left", counted((wanted.range().end() - round).saturating_add(1))),
     };
     format!("round {round}, {calls} calls, {:.0} calls a second, {left}", calls as f64 / time.as_secs_f64())
 }
@@ -97,7 +102,7 @@ fn show_failure(wanted: Wanted, now: &Now) {
     println!("that round alone: {}", wanted.command(round));
 }
 
-/// Goes through the rounds; nothing where one failed.
+/// Goes through the rounds; nothing where one failed, or where no call was made.
 pub fn run(wanted: Wanted) -> Option<Passed> {
     let (now, start, (end, ended)) = (Arc::new(Now::default()), Instant::now(), channel());
     let theirs = Arc::clone(&now);
@@ -109,8 +114,9 @@ pub fn run(wanted: Wanted) -> Option<Passed> {
     match result {
         Ok(passed) => {
             let (calls, time) = (now.calls.load(Relaxed), start.elapsed().as_secs_f64());
-            println!("{} rounds, {calls} calls in {time:.1} s, no difference", passed.rounds);
-            Some(passed)
+            let difference = if calls == 0 { "which is a failure: nothing was compared" } else { "no difference" };
+            println!("{}, {calls} calls in {time:.1} s, {difference}", counted(passed.rounds));
+            (calls > 0).then_some(passed)
         }
         Err(()) => {
             show_failure(wanted, &now);

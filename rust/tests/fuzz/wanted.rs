@@ -2,6 +2,7 @@
 
 use crate::random::random;
 use std::fmt::Display;
+use std::ops::RangeInclusive;
 use std::str::FromStr;
 use std::time::{Duration, SystemTime};
 
@@ -23,10 +24,12 @@ pub struct Wanted {
 }
 
 /// A number in the environment; none where the variable is not there, or empty.
-fn number<T: FromStr<Err: Display>>(name: &str) -> Option<T> {
-    let text = std::env::var(name).unwrap_or_default();
-    let refuse = |why| panic!("{name} is {text:?}: {why}");
-    (!text.is_empty()).then(|| text.parse().unwrap_or_else(refuse))
+fn number<T: FromStr<Err: Display>>(name: &str) -> Result<Option<T>, String> {
+    let text = std::env::var_os(name).unwrap_or_default();
+    if text.is_empty() {
+        return Ok(None);
+    }
+    text.to_string_lossy().parse().map(Some).map_err(|why| format!("{name} is {text:?}: {why}"))
 }
 
 /// A seed that is another each time, and short.
@@ -37,18 +40,19 @@ fn new_seed() -> u64 {
 
 impl Wanted {
     /// By FUZZ_SECONDS, FUZZ_SEED and FUZZ_ROUND, which `make fuzz` sets: a round alone, or some seconds, or the fixed
-    /// share where neither is given. Only a run of some seconds without a seed is another each time.
-    pub fn from_environment() -> Self {
-        let rounds = match (number("FUZZ_ROUND"), number("FUZZ_SECONDS")) {
+    /// share where neither is given. Only a run of some seconds without a seed is another each time. Otherwise says
+    /// which of the three is no number.
+    pub fn from_environment() -> Result<Self, String> {
+        let rounds = match (number("FUZZ_ROUND")?, number("FUZZ_SECONDS")?) {
             (Some(round), _) => Rounds::One(round),
             (None, Some(seconds)) => Rounds::For(Duration::from_secs(seconds)),
             (None, None) => Rounds::Fixed,
         };
-        let seed = number("FUZZ_SEED").unwrap_or_else(|| match rounds {
+        let seed = number("FUZZ_SEED")?.unwrap_or_else(|| match rounds {
             Rounds::For(_) => new_seed(),
             _ => FIXED_SEED,
         });
-        Wanted { seed, rounds }
+        Ok(Wanted { seed, rounds })
     }
 
     /// The seed of a round by itself.
@@ -58,11 +62,11 @@ impl Wanted {
     }
 
     /// The rounds to go through, where time does not end them.
-    pub fn range(&self) -> std::ops::Range<u64> {
+    pub fn range(&self) -> RangeInclusive<u64> {
         match self.rounds {
-            Rounds::Fixed => 0..FIXED_ROUNDS,
-            Rounds::For(_) => 0..u64::MAX,
-            Rounds::One(round) => round..round + 1,
+            Rounds::Fixed => 0..=FIXED_ROUNDS - 1,
+            Rounds::For(_) => 0..=u64::MAX,
+            Rounds::One(round) => round..=round,
         }
     }
 
