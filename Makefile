@@ -29,12 +29,11 @@ parts:
 test:
 	@tools/test
 
-test-long: parts
+test-long: lib parts
 	@rt check walklist
 	@cd rust && cargo test --release --offline -- --ignored --show-output
 
-fuzz:
-	@rt staticlib hubeltxa
+fuzz: lib
 	@cd rust && FUZZ_SECONDS=$(or $(SECONDS),60) FUZZ_SEED=$(SEED) FUZZ_ROUND=$(ROUND) cargo test --release --offline --test fuzz
 
 definitions:
