@@ -18,6 +18,7 @@ mod days;
 mod lent;
 mod lines;
 mod random;
+mod script;
 mod sets;
 
 use calls::*;
@@ -26,7 +27,8 @@ use compared::{Compared, ALL_SEVEN};
 use days::*;
 use lent::Lent;
 use random::*;
-use straight_scan::{Answer, Call, Gesture};
+use script::*;
+use straight_scan::{Answer, Call};
 
 #[link(name = "replay", kind = "static")]
 extern "C" {
@@ -46,67 +48,6 @@ extern "C" {
         answers: *mut u32,
         answers_len: usize,
     ) -> usize;
-}
-
-/// Words and floats of a step, and words of its answer.
-const STEP: usize = 6;
-const ANSWER: usize = 9;
-
-/// What the driver is lent for a list of calls.
-#[derive(Default)]
-struct Script {
-    words: Vec<u32>,
-    floats: Vec<f32>,
-    sheets: Vec<u8>,
-    listings: Vec<u32>,
-}
-
-impl Script {
-    fn push(&mut self, call: &Call, state: &mut u64) {
-        // Words and floats that a call does not use may be any.
-        let mut words = [0; STEP].map(|_| random(state) as u32);
-        let mut floats = [f32::NAN; STEP];
-        match call {
-            Call::Clear(bucket) => words[..2].copy_from_slice(&[0, *bucket]),
-            Call::Load(sheet) => {
-                words[..3].copy_from_slice(&[1, self.sheets.len() as u32, sheet.len() as u32]);
-                self.sheets.extend(sheet);
-            }
-            Call::Add(tag, [red, green, blue]) => words[..5].copy_from_slice(&[2, *tag, *red, *green, *blue]),
-            Call::Remove(tag) => words[..2].copy_from_slice(&[3, *tag]),
-            Call::Pick(gesture, lent) => {
-                words[5] = lent.len() as u32;
-                self.listings.extend(lent);
-                words[0] = match gesture {
-                    Gesture::Ball { centre, radius } => {
-                        floats[..3].copy_from_slice(centre);
-                        floats[3] = *radius;
-                        4
-                    }
-                    Gesture::Box { low, high } => {
-                        floats[..3].copy_from_slice(low);
-                        floats[3..].copy_from_slice(high);
-                        5
-                    }
-                    Gesture::Near { centre, radius } => {
-                        floats[..3].copy_from_slice(centre);
-                        floats[3] = *radius;
-                        any_of(&[6, 7, u32::MAX], state)
-                    }
-                };
-            }
-        }
-        self.words.extend(words);
-        self.floats.extend(floats);
-    }
-}
-
-/// An answer from its nine words and the listing as left.
-fn answer_of(words: &[u32], listing: &[u32]) -> Answer {
-    let &[number, taken, listed, entered, measured, found, tag, low, high] = words else { panic!("nine words") };
-    assert!(found <= 1, "found is {found}");
-    let d2 = u64::from(low) | u64::from(high) << 32;
-    Answer { number, taken, listed, entered, measured, found: found == 1, tag, d2, listing: listing.to_vec() }
 }
 
 /// The calls of a day, and what the straight scan answers to each.
@@ -157,8 +98,7 @@ fn run(script: &Script, tables: &Words, answers: &[u32]) -> (usize, Left) {
 
 /// Runs the script of a day, and compares all that is left.
 fn replayed(compared: &mut Compared, before: &Words, day: &[(Call, Answer)], after: &Words, state: &mut u64) {
-    let mut script = Script::default();
-    day.iter().for_each(|(call, _)| script.push(call, state));
+    let mut script = Script::of(day.iter().map(|(call, _)| call), state);
     script.listings.extend([7; 3]); // words past the script's, which stay
     let answers = vec![0xBEEF; ANSWER * day.len() + below(ANSWER, state)];
     let (steps, [s, o, l, a]) = run(&script, before, &answers);
@@ -199,14 +139,20 @@ fn scripts_of_whole_days() {
 /// Fewer words, floats or answer words than the script has steps: so many steps are made, and the rest stays.
 #[test]
 fn short_of_room() {
-    let steps = [[0, 2, 0, 0, 0, 0], [2, 7, 1, 2, 3, 0], [3, 7, 0, 0, 0, 0]].concat();
+    const CALLS: usize = 3;
+    let whole = Script::of(&[Call::Clear(2), Call::Add(7, [1, 2, 3]), Call::Remove(7)], &mut 1);
     let tables = (vec![9; 30], vec![9; 40]);
-    for (words, floats, answers) in [(18, 18, 26), (17, 18, 27), (18, 17, 27), (18, 18, 27), (5, 18, 27), (18, 18, 0)] {
-        let script = Script { words: steps[..words].to_vec(), floats: vec![0.0; floats], ..Script::default() };
-        let (made, [_, _, _, left]) = run(&script, &tables, &vec![0xBEEF; answers]);
-        assert_eq!(made, (words / STEP).min(floats / STEP).min(answers / ANSWER));
-        let (given, rest) = left.split_at(ANSWER * made);
-        assert!(given.iter().all(|&word| word == 0) && rest.iter().all(|&word| word == 0xBEEF));
+    let one_short = |each: usize| [CALLS * each, CALLS * each - 1, each - 1, 0];
+    for (words, floats) in one_short(STEP).into_iter().flat_map(|words| one_short(STEP).map(|floats| (words, floats))) {
+        for answers in one_short(ANSWER) {
+            let (words, floats) = (whole.words[..words].to_vec(), vec![0.0; floats]);
+            let made = (words.len() / STEP).min(floats.len() / STEP).min(answers / ANSWER);
+            let (steps, [_, _, _, left]) =
+                run(&Script { words, floats, ..Script::default() }, &tables, &vec![0xBEEF; answers]);
+            assert_eq!(steps, made);
+            let (given, rest) = left.split_at(ANSWER * made);
+            assert!(given.iter().all(|&word| word == 0) && rest.iter().all(|&word| word == 0xBEEF));
+        }
     }
 }
 

@@ -14,8 +14,9 @@ use Rattle.model.specs.Machine as M
 use Rattle.replay.specs.declared.calls.Call.{Call}
 use Rattle.replay.specs.declared.calls.Call.the-variants as C
 use Rattle.replay.specs.Calls.{meant, queryOf}
+use Rattle.replay.specs.Format.{stepWidth, answerWidth, kindAt, bucketAt, tagAt, redAt, greenAt, blueAt, sheetStartAt, sheetLengthAt, lentAt, lowAt, highAt, radiusAt}
 
--- A step is the first 6 words of a list and the first 6 floats of another. Past a list's end a word is 0, and a float is 0.0.
+-- A step is the first words of a list and the first floats of another. Past a list's end a word is 0, and a float is 0.0.
 abbrev pub noFloat : Float
 noFloat = fin false 0 (pos 0)
 
@@ -23,37 +24,42 @@ noFloat = fin false 0 (pos 0)
 unfoldable pub colourAt : List Float → ℕ → PanelColour
 colourAt floats k = record { red = getD floats k noFloat; green = getD floats (k + 1) noFloat; blue = getD floats (k + 2) noFloat }
 
--- The sample in words 1 to 4: tag, red, green, blue.
+-- The sample that an add says.
 unfoldable pub sampleIn : List ℕ → Sample
-sampleIn words = record { tag = getD words 1 0; colour = record { red = getD words 2 0; green = getD words 3 0; blue = getD words 4 0 } }
+sampleIn words =
+    record { tag = getD words tagAt 0; colour = record { red = getD words redAt 0; green = getD words greenAt 0; blue = getD words blueAt 0 } }
 
--- The calls that word 0 chooses from, by their place in this list.
+-- The calls that a step chooses from, by their place in this list.
 unfoldable pub firstCalls : List ℕ → List Float → List Call
 firstCalls words floats =
-    C.Clear (getD words 1 0)
+    C.Clear (getD words bucketAt 0)
     ∷ C.Load
     ∷ C.Add (sampleIn words)
-    ∷ C.Remove (getD words 1 0)
-    ∷ C.Ball (colourAt floats 0) (getD floats 3 noFloat)
-    ∷ C.Box (colourAt floats 0) (colourAt floats 3)
+    ∷ C.Remove (getD words tagAt 0)
+    ∷ C.Ball (colourAt floats lowAt) (getD floats radiusAt noFloat)
+    ∷ C.Box (colourAt floats lowAt) (colourAt floats highAt)
     ∷ []
 
--- The call that a step says: where word 0 is the place of none of them, a nearest query.
+-- The call of any other step: a nearest query.
+abbrev pub otherCall : List Float → Call
+otherCall floats = C.Nearest (colourAt floats lowAt) (getD floats radiusAt noFloat)
+
+-- The call that a step says.
 unfoldable pub callIn : List ℕ → List Float → Call
-callIn words floats = getD (firstCalls words floats) (getD words 0 0) (C.Nearest (colourAt floats 0) (getD floats 3 noFloat))
+callIn words floats = getD (firstCalls words floats) (getD words kindAt 0) (otherCall floats)
 
--- The part of the sheets that words 1 and 2 name by start and length, as far as it is there.
+-- The part of the sheets that a step names by start and length, as far as it is there.
 unfoldable pub sheetIn : List ℕ → List ℕ → List ℕ
-sheetIn words sheets = take (getD words 2 0) (drop (getD words 1 0) sheets)
+sheetIn words sheets = take (getD words sheetLengthAt 0) (drop (getD words sheetStartAt 0) sheets)
 
--- How many words a step's call is lent for its listing where word 5 says `most`: none if it is no query.
+-- How many words a step's call is lent for its listing if the step says `most`: none if it is no query.
 unfoldable pub wants : Option Query → ℕ → ℕ
 wants none most = 0
 wants (some q) most = most
 
 -- The words that a step is lent, of those left of the listings, as far as they are there.
 unfoldable pub lentOf : List ℕ → List Float → List ℕ → List ℕ
-lentOf words floats left = take (wants (queryOf (callIn words floats)) (getD words 5 0)) left
+lentOf words floats left = take (wants (queryOf (callIn words floats)) (getD words lentAt 0)) left
 
 -- The machine's call that a step means.
 unfoldable pub stepCall : List ℕ → List Float → List ℕ → List ℕ → M.Call
@@ -71,10 +77,10 @@ scriptOf words floats sheets listings = record { words = words; floats = floats;
 
 -- The words of step i on, and the floats.
 abbrev pub wordsFrom : Script → ℕ → List ℕ
-wordsFrom s i = drop (6 * i) (s .words)
+wordsFrom s i = drop (stepWidth * i) (s .words)
 
 abbrev pub floatsFrom : Script → ℕ → List Float
-floatsFrom s i = drop (6 * i) (s .floats)
+floatsFrom s i = drop (stepWidth * i) (s .floats)
 
 -- How many words of the listings the first n steps are lent, each from where the step before it ended.
 unfoldable pub lentBefore : Script → ℕ → ℕ
@@ -92,14 +98,14 @@ scriptCalls s (suc n) = scriptCalls s n ++ (stepCall (wordsFrom s n) (floatsFrom
 
 -- The steps that there are words, floats and answer words for.
 unfoldable pub stepsOf : Script → List ℕ → ℕ
-stepsOf s answers = min (length (s .words) / 6) (min (length (s .floats) / 6) (length answers / 9))
+stepsOf s answers = min (length (s .words) / stepWidth) (min (length (s .floats) / stepWidth) (length answers / answerWidth))
 
 -- Yes or no as a word.
 unfoldable pub flag : Bool → ℕ
 flag true = 1
 flag false = 0
 
--- The nine words of an answer; d² takes two, the lower first.
+-- The words of an answer; tag and d² take two each, the lower first.
 unfoldable pub answerWords : Answer → List ℕ
 answerWords a =
     a .number
@@ -108,9 +114,12 @@ answerWords a =
     ∷ a .entered
     ∷ a .measured
     ∷ flag (a .found)
-    ∷ a .tag
+    ∷ a .tag % 2 ^ 32
+    ∷ a .tag / 2 ^ 32
     ∷ a .distance % 2 ^ 32
     ∷ a .distance / 2 ^ 32
+    ∷ 0
+    ∷ 0
     ∷ []
 
 -- Words written over others from the first on; the rest stay.

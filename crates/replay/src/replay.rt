@@ -1,6 +1,8 @@
 // The driver: the calls of a script, one after the other, each made by the one entry.
 use crate::call::call;
 use crate::calls::Given;
+use crate::format::ANSWER;
+use crate::format::STEP;
 use crate::script::call_in;
 use crate::script::lent_to;
 use crate::script::sheet_in;
@@ -11,26 +13,31 @@ ghost use mathlib.Core.Path.{_≡_};
 ghost use lib.ListN.{length};
 ghost use Rattle.model.specs.Tables.{pair};
 ghost use Rattle.replay.specs.Calls.{answerOf};
+ghost use Rattle.replay.specs.Format.{answerWidth};
 ghost use Rattle.replay.specs.Script.{scriptOf, written, answerWords};
 ghost use Rattle.replay.specs.Replayed.{Stepped, Replayed};
 
 // What the upper word of a number of two words counts in.
 const HALF: u64 = 4294967296;
 
-// Writes what a call gave, as nine words.
+// Writes what a call gave, as the words of an answer.
 fn put_given(given: Given, answers: &mut [u32])
-    requires { ⌜ 9 ≤ length (now answers) ⌝ }
+    requires { ⌜ answerWidth ≤ length (now answers) ⌝ }
     ensures { λ _. ⌜ now (answers .exit) ≡ written (answerWords (answerOf given [])) (now (answers .entry)) ⌝ }
 {
+    let tag = given.tag as u64;
     answers[0] = given.number;
     answers[1] = given.taken;
     answers[2] = given.listed;
     answers[3] = given.entered;
     answers[4] = given.measured;
     answers[5] = given.found as u32;
-    answers[6] = given.tag;
-    answers[7] = (given.distance % HALF) as u32;
-    answers[8] = (given.distance / HALF) as u32;
+    answers[6] = (tag % HALF) as u32;
+    answers[7] = (tag / HALF) as u32;
+    answers[8] = (given.distance % HALF) as u32;
+    answers[9] = (given.distance / HALF) as u32;
+    answers[10] = 0;
+    answers[11] = 0;
 }
 
 // Makes one step: lends its call the first words of the listings and writes its answer. Says how many words were lent.
@@ -43,7 +50,7 @@ fn step(
     listings: &mut [u32],
     answers: &mut [u32],
 ) -> usize
-    requires { ⌜ 9 ≤ length (now answers) ⌝ }
+    requires { ⌜ answerWidth ≤ length (now answers) ⌝ }
     ensures { λ r. ⌜ Stepped (now (words .entry)) (now (floats .entry)) (now (sheets .entry)) (now (listings .entry)) (now (answers .entry)) (pair (now (samples .entry)) (now (octants .entry))) r (now (listings .exit)) (now (answers .exit)) (pair (now (samples .exit)) (now (octants .exit))) ⌝ }
 {
     let next = call_in(words, floats);
@@ -71,8 +78,8 @@ pub extern "C" fn hbx_replay(
     let mut at = 0;
     let mut i = 0;
     while i < steps {
-        let from = 6 * i;
-        let to = 9 * i;
+        let from = STEP * i;
+        let to = ANSWER * i;
         let lent = step(
             samples,
             octants,

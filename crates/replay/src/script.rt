@@ -1,5 +1,19 @@
-// A step of a script, which is 6 words and 6 floats: the call that it says, the part of the sheets that it names, and how much of the listings it is lent.
+// A step of a script: the call that it says, the part of the sheets that it names, and how much of the listings it is lent.
 use crate::calls::Call;
+use crate::format::ANSWER;
+use crate::format::BLUE;
+use crate::format::BUCKET;
+use crate::format::GREEN;
+use crate::format::HIGH;
+use crate::format::KIND;
+use crate::format::LENT;
+use crate::format::LOW;
+use crate::format::RADIUS;
+use crate::format::RED;
+use crate::format::SHEET_LENGTH;
+use crate::format::SHEET_START;
+use crate::format::STEP;
+use crate::format::TAG;
 use colour::Colour;
 use colour::PanelColour;
 use colour::Sample;
@@ -8,13 +22,14 @@ ghost use Prim.Native.Nat.{_+_, _/_, min};
 ghost use mathlib.Core.Path.{_≡_};
 ghost use lib.ListN.{getD};
 ghost use Rattle.replay.specs.Calls.{queryOf};
+ghost use Rattle.replay.specs.Format.{stepWidth, answerWidth, lentAt};
 ghost use Rattle.replay.specs.Script.{noFloat, colourAt, sampleIn, callIn, sheetIn, wants};
 
 // How many steps there are words, floats and answer words for.
 pub fn steps_of(words: usize, floats: usize, answers: usize) -> usize
-    ensures { λ r. ⌜ r ≡ min (words / 6) (min (floats / 6) (answers / 9)) ⌝ }
+    ensures { λ r. ⌜ r ≡ min (words / stepWidth) (min (floats / stepWidth) (answers / answerWidth)) ⌝ }
 {
-    least(words / 6, least(floats / 6, answers / 9))
+    least(words / STEP, least(floats / STEP, answers / ANSWER))
 }
 
 // A word, 0 past the end.
@@ -43,16 +58,16 @@ fn colour_at(floats: &[f32], k: u32) -> PanelColour
     }
 }
 
-// The sample in words 1 to 4.
+// The sample that an add says.
 fn sample_in(words: &[u32]) -> Sample
     ensures { λ r. ⌜ r ≡ sampleIn (now (words .entry)) ⌝ }
 {
     Sample {
-        tag: word_at(words, 1),
+        tag: word_at(words, TAG),
         colour: Colour {
-            red: word_at(words, 2),
-            green: word_at(words, 3),
-            blue: word_at(words, 4),
+            red: word_at(words, RED),
+            green: word_at(words, GREEN),
+            blue: word_at(words, BLUE),
         },
     }
 }
@@ -61,16 +76,16 @@ fn sample_in(words: &[u32]) -> Sample
 pub fn call_in(words: &[u32], floats: &[f32]) -> Call
     ensures { λ r. ⌜ r ≡ callIn (now (words .entry)) (now (floats .entry)) ⌝ }
 {
-    let number = word_at(words, 1);
+    let bucket = word_at(words, BUCKET);
     let sample = sample_in(words);
-    let low = colour_at(floats, 0);
-    let high = colour_at(floats, 3);
-    let radius = float_at(floats, 3);
-    match word_at(words, 0) {
-        0 => Call::Clear(number),
+    let low = colour_at(floats, LOW);
+    let high = colour_at(floats, HIGH);
+    let radius = float_at(floats, RADIUS);
+    match word_at(words, KIND) {
+        0 => Call::Clear(bucket),
         1 => Call::Load,
         2 => Call::Add(sample),
-        3 => Call::Remove(number),
+        3 => Call::Remove(sample.tag),
         4 => Call::Ball(low, radius),
         5 => Call::Box(low, high),
         _ => Call::Nearest(low, radius),
@@ -81,17 +96,17 @@ pub fn call_in(words: &[u32], floats: &[f32]) -> Call
 pub fn sheet_in<'a>(words: &[u32], sheets: &'a [u8]) -> &'a [u8]
     ensures { λ r. ⌜ now r ≡ sheetIn (now (words .entry)) (now (sheets .entry)) ⌝ }
 {
-    let start = least(word_at(words, 1) as usize, sheets.len());
-    let size = least(word_at(words, 2) as usize, sheets.len() - start);
+    let start = least(word_at(words, SHEET_START) as usize, sheets.len());
+    let size = least(word_at(words, SHEET_LENGTH) as usize, sheets.len() - start);
     let end = start + size;
     &sheets[start..end]
 }
 
 // How many words of what is left of the listings a step's call is lent: none if it is no query.
 pub fn lent_to(call: Call, words: &[u32], left: usize) -> usize
-    ensures { λ r. ⌜ r ≡ min (wants (queryOf call) (getD (now (words .entry)) 5 0)) left ⌝ }
+    ensures { λ r. ⌜ r ≡ min (wants (queryOf call) (getD (now (words .entry)) lentAt 0)) left ⌝ }
 {
-    let most = least(word_at(words, 5) as usize, left);
+    let most = least(word_at(words, LENT) as usize, left);
     match call {
         Call::Clear(_) => 0,
         Call::Load => 0,

@@ -12,6 +12,7 @@ use Rattle.model.specs.Tables.{Tables}
 use Rattle.model.specs.Machine.{Call}
 use Rattle.model.specs.Meets.{Meets}
 use Rattle.model.specs.Trace.{Event, callOf, Happened}
+use Rattle.replay.specs.Format.{stepWidth, answerWidth}
 use Rattle.replay.specs.Script.{Script, lentOf, stepCall, wordsFrom, floatsFrom, lentBefore, listingsFrom, scriptCalls, answerWords, written}
 use Rattle.replay.specs.Replayed.{NamedAnswer, AllNamed, Stepped, Ran, lastTables, inTurn, wordsOf, listingIn}
 use Rattle.replay.proofs.Laws.Parts.{tail-whole, written-next}
@@ -49,7 +50,7 @@ pub record Upto (s : Script) (answers₀ : List ℕ) (t₀ : Tables) (i at : ℕ
   pub ran : Ran s answers₀ t₀ i listings answers t
   pub place : at ≡ lentBefore s i
   pub filled : length (inTurn listingIn (ran .events)) ≡ at
-  pub count : length (inTurn wordsOf (ran .events)) ≡ 9 * i
+  pub count : length (inTurn wordsOf (ran .events)) ≡ answerWidth * i
 
 module _ (s : Script) (answers₀ : List ℕ) (t₀ : Tables) where
   pub begin : Upto s answers₀ t₀ 0 0 (s .listings) answers₀ t₀
@@ -75,7 +76,7 @@ module _ (s : Script) (answers₀ : List ℕ) (t₀ : Tables) where
     within = omega (arith, u .filled, ap length (u .ran .listed) ∙ length-append (inTurn listingIn (u .ran .events)) _)
 
     module _ (r : ℕ) (listings′ answers′ : List ℕ) (t′ : Tables)
-        (st : Stepped (wordsFrom s i) (floatsFrom s i) (s .sheets) (drop at listings) (drop (9 * i) answers) t r listings′ answers′ t′) where
+        (st : Stepped (wordsFrom s i) (floatsFrom s i) (s .sheets) (drop at listings) (drop (answerWidth * i) answers) t r listings′ answers′ t′) where
       abbrev call : Call
       call = stepCall (wordsFrom s i) (floatsFrom s i) (s .sheets) (listingsFrom s i)
 
@@ -88,7 +89,7 @@ module _ (s : Script) (answers₀ : List ℕ) (t₀ : Tables) where
       size : r ≡ length (lentOf (wordsFrom s i) (floatsFrom s i) (listingsFrom s i))
       size = st .lent-is ∙ ap (λ (l : List ℕ). length (lentOf (wordsFrom s i) (floatsFrom s i) l)) rest
 
-      pub next : Upto s answers₀ t₀ (i + 1) (at + r) (take at listings ++ listings′) (take (9 * i) answers ++ answers′) t′
+      pub next : Upto s answers₀ t₀ (i + 1) (at + r) (take at listings ++ listings′) (take (answerWidth * i) answers ++ answers′) t′
       unfolding scriptCalls lentBefore answerWords
       next =
           let meets : Meets call (lastTables t₀ events) (st .answer) t′ = rw (rest, u .ran .tables) at (st .meets) in
@@ -108,7 +109,7 @@ module _ (s : Script) (answers₀ : List ℕ) (t₀ : Tables) where
                   named = named-more t₀ events event (u .ran .named) named;
                   tables = sym (last-more t₀ events event);
                   answered =
-                      over-next _ _ answers₀ answers answers′ (9 * i) (u .ran .answered) (u .count) (st .answered)
+                      over-next _ _ answers₀ answers answers′ (answerWidth * i) (u .ran .answered) (u .count) (st .answered)
                       ∙ ap (λ (l : List ℕ). written l answers₀) (sym answers-more);
                   listed =
                       over-next _ _ (s .listings) listings listings′ at (u .ran .listed) (u .filled) (st .listed)
@@ -120,17 +121,17 @@ module _ (s : Script) (answers₀ : List ℕ) (t₀ : Tables) where
                 ∙ length-append (inTurn listingIn events) (st .answer .listing)
                 ∙ (λ k. u .filled k + (st .filled ∙ sym (st .lent-is)) k);
             count =
-                let sum : length (inTurn wordsOf (events ++ (event ∷ []))) ≡ length (inTurn wordsOf events) + 9 =
+                let sum : length (inTurn wordsOf (events ++ (event ∷ []))) ≡ length (inTurn wordsOf events) + answerWidth =
                 ap length answers-more ∙ length-append (inTurn wordsOf events) (answerWords (st .answer)) in
                 omega (arith, u .count);
           }
 
     -- The same of parts that are lent to the end, and of those that came back.
     pub turn : (r : ℕ) (listings′ answers′ : List ℕ) (t′ : Tables)
-        → Stepped (take (length (s .words) - 6 * i) (wordsFrom s i)) (take (length (s .floats) - 6 * i) (floatsFrom s i)) (s .sheets)
-        (take (length listings - at) (drop at listings)) (take (length answers - 9 * i) (drop (9 * i) answers)) t r listings′ answers′ t′
-        → Upto s answers₀ t₀ (i + 1) (at + r) (putMid at (length listings - at) listings listings′) (putMid (9 * i) (length answers - 9 * i) answers answers′) t′
+        → Stepped (take (length (s .words) - stepWidth * i) (wordsFrom s i)) (take (length (s .floats) - stepWidth * i) (floatsFrom s i)) (s .sheets)
+        (take (length listings - at) (drop at listings)) (take (length answers - answerWidth * i) (drop (answerWidth * i) answers)) t r listings′ answers′ t′
+        → Upto s answers₀ t₀ (i + 1) (at + r) (putMid at (length listings - at) listings listings′) (putMid (answerWidth * i) (length answers - answerWidth * i) answers answers′) t′
     turn r listings′ answers′ t′ st =
-        let st′ : Stepped (wordsFrom s i) (floatsFrom s i) (s .sheets) (drop at listings) (drop (9 * i) answers) t r listings′ answers′ t′ =
-        rw (tail-whole (s .words) (6 * i), tail-whole (s .floats) (6 * i), tail-whole listings at, tail-whole answers (9 * i)) at st in
-        rw (put-tail at listings listings′, put-tail (9 * i) answers answers′) (next r listings′ answers′ t′ st′)
+        let st′ : Stepped (wordsFrom s i) (floatsFrom s i) (s .sheets) (drop at listings) (drop (answerWidth * i) answers) t r listings′ answers′ t′ =
+        rw (tail-whole (s .words) (stepWidth * i), tail-whole (s .floats) (stepWidth * i), tail-whole listings at, tail-whole answers (answerWidth * i)) at st in
+        rw (put-tail at listings listings′, put-tail (answerWidth * i) answers answers′) (next r listings′ answers′ t′ st′)

@@ -13,19 +13,20 @@ use Rattle.replay.specs.declared.calls.Call.{Call}
 use Rattle.replay.specs.declared.calls.Call.the-variants as C
 use Rattle.replay.specs.declared.calls.Given.{Given}
 use Rattle.replay.specs.Calls.{meant, queryOf, listingOf, answerOf, givenAnswer, Kept, Named, CallMeets}
-use Rattle.replay.specs.Script.{noFloat, colourAt, firstCalls, callIn, sheetIn, wants, lentOf, stepCall, answerWords, written}
+use Rattle.replay.specs.Format.{kindAt, lentAt}
+use Rattle.replay.specs.Script.{firstCalls, otherCall, callIn, sheetIn, wants, lentOf, stepCall, answerWords, written}
 use Rattle.replay.specs.Replayed.{NamedAnswer, Stepped}
 use Rattle.words.proofs.Laws.Clipped.{take-clipped}
 
--- The call that word 0 chooses.
+-- The call that a step chooses.
 module _ (words : List ℕ) (floats : List Float) where
-  pub says : (k : ℕ) → getD words 0 0 ≡ k → callIn words floats ≡ getD (firstCalls words floats) k (C.Nearest (colourAt floats 0) (getD floats 3 noFloat))
+  pub says : (k : ℕ) → getD words kindAt 0 ≡ k → callIn words floats ≡ getD (firstCalls words floats) k (otherCall floats)
   unfolding callIn
-  says k e = ap (λ (n : ℕ). getD (firstCalls words floats) n (C.Nearest (colourAt floats 0) (getD floats 3 noFloat))) e
+  says k e = ap (λ (n : ℕ). getD (firstCalls words floats) n (otherCall floats)) e
 
-  pub says-other : 6 ≤ getD words 0 0 → callIn words floats ≡ C.Nearest (colourAt floats 0) (getD floats 3 noFloat)
-  unfolding callIn firstCalls
-  says-other h = List·getD-eq-default (firstCalls words floats) (C.Nearest (colourAt floats 0) (getD floats 3 noFloat)) h
+  pub says-other : length (firstCalls words floats) ≤ getD words kindAt 0 → callIn words floats ≡ otherCall floats
+  unfolding callIn
+  says-other h = List·getD-eq-default (firstCalls words floats) (otherCall floats) h
 
 -- All the words that a call is lent are its answer's listing: a call that is no query is lent none.
 listing-whole : (q : Option Query) (most : ℕ) (l left : List ℕ) → Kept q (take (wants q most) l) left → listingOf q left ≡ left
@@ -47,18 +48,18 @@ answer-named (C.Nearest centre radius) sheet l t a t′ h = h .asked .named
 -- A step, by what its call, its sheet and the words that it is lent are.
 module _ (words : List ℕ) (floats : List Float) (sheets listings answers : List ℕ) (t : Tables) where
   pub stepped : (c : Call) (sheet : List ℕ) (n : ℕ) (r : Given) (left answers′ : List ℕ) (t′ : Tables) → c ≡ callIn words floats
-      → sheet ≡ sheetIn words sheets → n ≡ min (wants (queryOf c) (getD words 5 0)) (length listings) → length left ≡ length (take n listings)
+      → sheet ≡ sheetIn words sheets → n ≡ min (wants (queryOf c) (getD words lentAt 0)) (length listings) → length left ≡ length (take n listings)
       → CallMeets c sheet (take n listings) t r left t′ → answers′ ≡ written (answerWords (answerOf r [])) answers
       → Stepped words floats sheets listings answers t n (left ++ drop n listings) answers′ t′
   unfolding lentOf stepCall answerWords givenAnswer answerOf written
   stepped c sheet n r left answers′ t′ call-is sheet-is n-is same-length meets put =
-      let n-clipped : n ≡ min (wants (queryOf (callIn words floats)) (getD words 5 0)) (length listings) =
-      n-is ∙ ap (λ (x : Call). min (wants (queryOf x) (getD words 5 0)) (length listings)) call-is in
+      let n-clipped : n ≡ min (wants (queryOf (callIn words floats)) (getD words lentAt 0)) (length listings) =
+      n-is ∙ ap (λ (x : Call). min (wants (queryOf x) (getD words lentAt 0)) (length listings)) call-is in
       let part-is : take n listings ≡ lentOf words floats listings =
-      ap (λ (k : ℕ). take k listings) n-clipped ∙ take-clipped (wants (queryOf (callIn words floats)) (getD words 5 0)) listings in
+      ap (λ (k : ℕ). take k listings) n-clipped ∙ take-clipped (wants (queryOf (callIn words floats)) (getD words lentAt 0)) listings in
       let m : CallMeets (callIn words floats) (sheetIn words sheets) (lentOf words floats listings) t r left t′ =
       rw (call-is, sheet-is, part-is) at meets in
-      let whole : listingOf (queryOf (callIn words floats)) left ≡ left = listing-whole _ (getD words 5 0) listings left (m .kept) in
+      let whole : listingOf (queryOf (callIn words floats)) left ≡ left = listing-whole _ (getD words lentAt 0) listings left (m .kept) in
       let size : length left ≡ n = same-length ∙ length-take n listings ∙ omega arith in
       record {
         answer = givenAnswer (callIn words floats) r left;
@@ -75,4 +76,4 @@ module _ (words : List ℕ) (floats : List Float) (sheets listings answers : Lis
       → n ≤ length listings
   unfolding lentOf
   lent-within n listings′ answers′ t′ st =
-      omega (arith, st .lent-is ∙ length-take (wants (queryOf (callIn words floats)) (getD words 5 0)) listings)
+      omega (arith, st .lent-is ∙ length-take (wants (queryOf (callIn words floats)) (getD words lentAt 0)) listings)

@@ -6,6 +6,7 @@ use borrow.Author.Needs.{needs}
 use borrow.Rule.Slice.PartMut.{same-len-mid}
 use lib.ListN.{length, take, drop, length-take, length-drop}
 use Rattle.model.specs.Tables.{pair}
+use Rattle.replay.specs.Format.{stepWidth, answerWidth}
 use Rattle.replay.specs.Script.{scriptOf, stepsOf}
 use Rattle.replay.proofs.Laws.Events.{Upto, begin, within, turn}
 use Rattle.replay.proofs.Laws.Steps.{lent-within}
@@ -34,9 +35,9 @@ loop-holds c = (refl, refl, refl, refl, omega arith, begin _ _ _)
 
 -- Room for a step that is left, and lengths whose bytes can be counted.
 record Room (words floats answers listings i at : ℕ) : Type 0 where
-  in-words : 6 * i ≤ words
-  in-floats : 6 * i ≤ floats
-  in-answers : 9 * i + 9 ≤ answers
+  in-words : stepWidth * i ≤ words
+  in-floats : stepWidth * i ≤ floats
+  in-answers : answerWidth * i + answerWidth ≤ answers
   in-listings : at ≤ listings
   few-words : words * 4 < 2 ^ 63
   few-floats : floats * 4 < 2 ^ 63
@@ -143,7 +144,7 @@ loop-again c =
       st .kept .0 ∙ l .inv .0,
       st .kept .1 .0 ∙ l .inv .1,
       same-len-mid (l .at) (length (l .listings) - l .at) (l .listings) (st .last .1 .1 .1 .1 .1 .0) (st .kept .1 .1 .1 .1 .1 .0) ∙ l .inv .2,
-      same-len-mid (9 * l .i) (length (l .answers) - 9 * l .i) (l .answers) (st .last .1 .1 .1 .1 .1 .1 .0) (st .kept .1 .1 .1 .1 .1 .1 .0) ∙ l .inv .3,
+      same-len-mid (answerWidth * l .i) (length (l .answers) - answerWidth * l .i) (l .answers) (st .last .1 .1 .1 .1 .1 .1 .0) (st .kept .1 .1 .1 .1 .1 .1 .0) ∙ l .inv .3,
       omega (arith, d .loop-test),
       turn _ _ _ (l .i) (l .at) (l .listings) (l .answers) _ (l .inv .5) (st .result) _ _ _ (st .ensures),
     )

@@ -1,9 +1,10 @@
--- `script::call_in`: by what word 0 is.
+-- `script::call_in`: by what the word for the call is.
 use Prim.Native.Nat.{_≤_}
 use native.Mathlib.Omega.{arith}
 use mathlib.Core.Path.{sym, ap, ap₂, _∙_}
+use Rattle.colour.specs.declared.Sample.{Sample}
 use Rattle.replay.specs.declared.calls.Call.the-variants as C
-use Rattle.replay.specs.Script.{firstCalls}
+use Rattle.replay.specs.Script.{sampleIn, firstCalls}
 use Rattle.replay.proofs.Laws.Steps.{says, says-other}
 use borrow.Author.Needs.{needs}
 use Rattle.replay.proofs.script.call_in.Statement.{statement}
@@ -46,10 +47,10 @@ returns-3 c =
     ap C.Add (c .before .before .before .before .before .sample-in .ensures) ∙ sym (says _ _ 2 (sym (w .ensures) ∙ c .match .keys3))
 
 returns-4 : tie.Need-returns-4
-unfolding firstCalls
+unfolding sampleIn firstCalls
 returns-4 c =
     let w = c .before .word-at2 in
-    ap C.Remove (c .before .before .before .before .before .before .word-at .ensures) ∙ sym (says _ _ 3 (sym (w .ensures) ∙ c .match .keys4))
+    ap (λ (s : Sample). C.Remove (s .tag)) (c .before .before .before .before .before .sample-in .ensures) ∙ sym (says _ _ 3 (sym (w .ensures) ∙ c .match .keys4))
 
 returns-5 : tie.Need-returns-5
 unfolding firstCalls
