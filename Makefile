@@ -1,3 +1,4 @@
+# make demo         the main job, from nothing: build, load a sheet, print its order, key a picture by it
 # make              prove every crate, and build lib/libhubeltxa.a and target/bin/walklist
 # make lib          lib/libhubeltxa.a, for include/hubeltxa.h
 # make test         the whole test, from nothing; its last line is rt's verdict
@@ -6,31 +7,31 @@
 # make definitions  the definitions, compared with the straight scan by computing both
 # make must-fail    every must-fail edit, also those that are not in the gate; CRATE=order for those of one crate
 # make rules        changed rules of the reference machine, each of which must break the proof of its call
+# make map          draw crates.txt, as docs/architecture.svg
 # make bench        how fast it is, beside C++, nanoflann, FLANN and a scan; written to docs/BENCHMARK.md
 # make fmt          format Rattle and Rust
 # make clean        remove what is built
 
-.PHONY: all lib parts test test-long fuzz definitions must-fail rules bench fmt clean
+.PHONY: all demo lib parts test test-long fuzz definitions must-fail rules map bench fmt clean
 
 all:
-	@rt check
-	@$(MAKE) --no-print-directory lib
+	@tools/build
 	@echo "Proved. lib/libhubeltxa.a and target/bin/walklist are built."
 
+demo:
+	@tools/demo
+
 lib:
-	@rt staticlib hubeltxa
-	@mkdir -p lib
-	@cp target/staticlib/libhubeltxa.a lib/
+	@tools/build hubeltxa
 
 # What the tests and the benchmark run, besides the library.
 parts:
-	@for name in hubeltxa rebuild replay; do rt staticlib $$name || exit 1; done
+	@tools/build hubeltxa rebuild replay walklist
 
 test:
 	@tools/test
 
-test-long: lib parts
-	@rt check walklist
+test-long: parts
 	@cd rust && cargo test --release --offline -- --ignored --show-output
 
 fuzz: lib
@@ -44,6 +45,9 @@ must-fail:
 
 rules:
 	@tools/rules/run
+
+map:
+	@tools/map > docs/architecture.svg
 
 bench: parts
 	@bench/build
