@@ -11,7 +11,7 @@
 #define LINES 2
 
 /* Four sample rows and three octant rows. */
-static uint32_t samples[2 + 4 * 5], octants[1 + 3 * 11];
+static uint32_t samples[HBX_SAMPLE_WORDS(4)], octants[HBX_OCTANT_WORDS(3)];
 
 static uint8_t sheet[HBX_HEADER_LENGTH + LINES * HBX_LINE_LENGTH];
 
@@ -70,7 +70,7 @@ int main(void)
     show_tables();
 
     /* The null byte that sprintf adds is where line 0 starts, which is written next. */
-    sprintf((char *)sheet, "SWATCHES%6d\n", LINES);
+    sprintf((char *)sheet, HBX_TITLE "%*d\n", HBX_COUNT_COLUMNS, LINES);
     write_line(0, 8, 65535);
     write_line(1, 9, 0);
     load("8 and 9", sizeof sheet);
@@ -81,7 +81,7 @@ int main(void)
     add(7, 0); /* it is the last now */
     show_tables();
 
-    add(10, 65536);
+    add(10, HBX_MOST_CODE + 1);
     add(9, 65535);
     add(10, 0); /* a third sample at 0 in all would split down to the last depth */
     remove_tag(10, LENGTH(octants));
@@ -98,7 +98,7 @@ int main(void)
     add(11, 65535);
     show_tables();
 
-    samples[0] = 3;
+    samples[HBX_AT_COUNT] = 3;
     remove_tag(7, LENGTH(octants)); /* the tables are of no set */
     return 0;
 }

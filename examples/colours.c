@@ -23,8 +23,8 @@ int main(void)
     there_and_back(0.25f, 0.5f, 0.75f);
     there_and_back(0.1f, 0.2f, 0.3f);
     there_and_back(-0.0f, 1e-9f, 0.99999994f);
-    there_and_back(0.25f, 0.5f, 1.0f);
-    number = hbx_floats(1, 65536, 2, &shown[0], &shown[1], &shown[2]);
+    there_and_back(0.25f, 0.5f, HBX_CHANNEL_LIMIT);
+    number = hbx_floats(1, HBX_MOST_CODE + 1, 2, &shown[0], &shown[1], &shown[2]);
     printf("floats %" PRIu32 ": %.9g %.9g %.9g\n", number, shown[0], shown[1], shown[2]);
     return 0;
 }

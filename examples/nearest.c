@@ -7,7 +7,7 @@
 
 #define LENGTH(table) (sizeof(table) / sizeof(table)[0])
 
-static uint32_t samples[2 + 8 * 5], octants[1 + 24 * 11];
+static uint32_t samples[HBX_SAMPLE_WORDS(8)], octants[HBX_OCTANT_WORDS(24)];
 
 static void add(uint32_t tag, uint32_t red, uint32_t green, uint32_t blue)
 {
@@ -54,7 +54,7 @@ int main(void)
     nearest(0.5f, 0.5f, 0.5f, 0.125f, LENGTH(octants)); /* exactly the distance is not within */
 
     nearest(0.5f, 0.5f, 0.5f, 0.25f, 0);
-    nearest(0.5f, 0.5f, 1.0f, 0.25f, LENGTH(octants));
-    nearest(0.5f, 0.5f, 0.5f, 2.0f, LENGTH(octants));
+    nearest(0.5f, 0.5f, HBX_CHANNEL_LIMIT, 0.25f, LENGTH(octants));
+    nearest(0.5f, 0.5f, 0.5f, HBX_RADIUS_LIMIT, LENGTH(octants));
     return 0;
 }

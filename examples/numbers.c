@@ -18,11 +18,11 @@ static void show(const char *what, uint32_t number, uint32_t expected)
 static void change(void)
 {
     show("a sample table of one word", hbx_clear(samples, 1, octants, 1, 1), HBX_TOO_SHORT);
-    samples[0] = 9;
+    samples[HBX_AT_COUNT] = 9;
     show("tables that were never cleared", hbx_add(TABLES, 7, 0, 0, 0), HBX_UNSOUND);
     show("a bucket size of 0", hbx_clear(TABLES, 0), HBX_BUCKET);
     show("cleared", hbx_clear(TABLES, 1), HBX_ACCEPTED);
-    show("a code of 65,536", hbx_add(TABLES, 7, 0, 0, 65536), HBX_CODE);
+    show("a code of 65,536", hbx_add(TABLES, 7, 0, 0, HBX_MOST_CODE + 1), HBX_CODE);
     show("added", hbx_add(TABLES, 7, 0, 0, 0), HBX_ACCEPTED);
     show("its tag again", hbx_add(TABLES, 7, 1, 2, 3), HBX_KNOWN_TAG);
     show("added in the last row, as deep as can be", hbx_add(TABLES, 8, 0, 0, 1), HBX_NO_OCTANTS);
@@ -40,7 +40,8 @@ static void ask(void)
 {
     uint32_t tags[3], listed, entered, measured;
 
-    show("a ball of radius 2", hbx_ball(TABLES, 0, 0, 0, 2, tags, 3, &listed, &entered, &measured), HBX_OUT_OF_RANGE);
+    show("a ball of radius 2",
+         hbx_ball(TABLES, 0, 0, 0, HBX_RADIUS_LIMIT, tags, 3, &listed, &entered, &measured), HBX_OUT_OF_RANGE);
     show("a listing of one word for three tags",
          hbx_ball(TABLES, 0, 0, 0, 1.999f, tags, 1, &listed, &entered, &measured), HBX_NO_ROOM);
     show("a listing of three", hbx_ball(TABLES, 0, 0, 0, 1.999f, tags, 3, &listed, &entered, &measured), HBX_ACCEPTED);
@@ -51,11 +52,13 @@ static void load(void)
 {
     uint8_t *line = sheet + HBX_HEADER_LENGTH;
     const uint8_t name[] = "A 01";
+    char what[40];
     uint32_t taken;
 
-    sprintf((char *)sheet, "SWATCHES%6d\n", 1);
+    sprintf((char *)sheet, HBX_TITLE "%*d\n", HBX_COUNT_COLUMNS, 1);
     show("a name with a blank in it", hbx_line(7, 0, 0, 0, name, 4, line, HBX_LINE_LENGTH), HBX_NAME);
-    show("a line on 61 bytes", hbx_line(7, 0, 0, 0, name, 1, line, HBX_LINE_LENGTH - 1), HBX_NO_ROOM);
+    sprintf(what, "a line on %d bytes", HBX_LINE_LENGTH - 1);
+    show(what, hbx_line(7, 0, 0, 0, name, 1, line, HBX_LINE_LENGTH - 1), HBX_NO_ROOM);
     show("a line written", hbx_line(10, 5, 6, 7, name, 1, line, HBX_LINE_LENGTH), HBX_ACCEPTED);
     show("a sheet one byte too long", hbx_load(TABLES, sheet, sizeof sheet, &taken), HBX_HEADER);
     show("removed, for a row", hbx_remove(TABLES, 9), HBX_ACCEPTED);

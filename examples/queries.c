@@ -8,7 +8,7 @@
 #define LENGTH(table) (sizeof(table) / sizeof(table)[0])
 #define SAMPLES 8
 
-static uint32_t samples[2 + SAMPLES * 5], octants[1 + 16 * 11];
+static uint32_t samples[HBX_SAMPLE_WORDS(SAMPLES)], octants[HBX_OCTANT_WORDS(16)];
 
 /* As many words as samples: never too short. */
 static uint32_t listing[SAMPLES];
@@ -78,8 +78,8 @@ int main(void)
     box(0.5f, 0.96875f, all);
 
     ball(0.140625f, 0.6875f, 0.1875f, 0.0625f, 0, all);
-    ball(0.140625f, 0.6875f, 0.1875f, 2.0f, LENGTH(octants), all);
-    ball(1.0f, 0.6875f, 0.1875f, 0.0625f, LENGTH(octants), all);
+    ball(0.140625f, 0.6875f, 0.1875f, HBX_RADIUS_LIMIT, LENGTH(octants), all);
+    ball(HBX_CHANNEL_LIMIT, 0.6875f, 0.1875f, 0.0625f, LENGTH(octants), all);
     box(0.5f, 0.25f, all);
     ball(0.140625f, 0.6875f, 0.1875f, 0.0625f, LENGTH(octants), 3); /* one word too few */
     ball(0.140625f, 0.6875f, 0.1875f, 0.0625f, LENGTH(octants), 4); /* just enough */

@@ -35,7 +35,7 @@ int main(void)
     int k;
 
     /* The null byte that sprintf adds is where line 0 starts, which is written next. */
-    sprintf((char *)sheet, "SWATCHES%6d\n", LINES);
+    sprintf((char *)sheet, HBX_TITLE "%*d\n", HBX_COUNT_COLUMNS, LINES);
     write_line(7, 0, "A001", line(0), HBX_LINE_LENGTH);
     write_line(UINT32_MAX, 65535, "B-roll/day.2", line(1), HBX_LINE_LENGTH);
     write_line(9, 32768, "A002", line(2), HBX_LINE_LENGTH);
@@ -49,7 +49,7 @@ int main(void)
     look_up(8, sizeof sheet);
     look_up(7, sizeof sheet - 1); /* not as long as the header says */
 
-    write_line(8, 65536, "A003", line(0), HBX_LINE_LENGTH);
+    write_line(8, HBX_MOST_CODE + 1, "A003", line(0), HBX_LINE_LENGTH);
     write_line(8, 32768, "A 003", line(0), HBX_LINE_LENGTH);
     write_line(8, 32768, "A003", line(0), HBX_LINE_LENGTH - 1);
     look_up(7, sizeof sheet); /* the refused lines wrote nothing */

@@ -9,7 +9,33 @@
 #define LENGTH(table) (sizeof(table) / sizeof(table)[0])
 
 /* Three sample rows and three octant rows. */
-static uint32_t samples[2 + 3 * 5], octants[1 + 3 * 11];
+static uint32_t samples[HBX_SAMPLE_WORDS(3)], octants[HBX_OCTANT_WORDS(3)];
+
+/* Two sets with every word written out, a line for each header and row, to show what tables are. */
+
+/* Bucket size 2; tag 7 at (1, 2, 3), in the root octant. */
+static const uint32_t sample[HBX_SAMPLE_WORDS(1)] = {
+    1, 2,
+    7, 1, 2, 3, 1
+};
+static const uint32_t root[HBX_OCTANT_WORDS(1)] = {
+    1,
+    0, 0, 1, 0, 0, 0, 0, 0, 0, 0, 0
+};
+
+/* Bucket size 2; 7 at (0, 0, 0), 8 at 65535 in all, 9 at (0, 0, 0). The order is 7, 9, 8. */
+static const uint32_t three[HBX_SAMPLE_WORDS(3)] = {
+    3, 2,
+    7, 0, 0, 0, 2,
+    8, 65535, 65535, 65535, 3,
+    9, 0, 0, 0, 1
+};
+static const uint32_t split[HBX_OCTANT_WORDS(3)] = {
+    3,
+    0, 1, 3, 1, 0, 0, 0, 0, 0, 0, 2,
+    0, 2, 2, 0, 0, 0, 0, 0, 0, 0, 0,
+    1, 1, 1, 0, 0, 0, 0, 0, 0, 0, 0
+};
 
 static void clear(size_t samples_len, size_t octants_len, uint32_t bucket)
 {
@@ -37,13 +63,8 @@ static void show(const char *name, const uint32_t *table, size_t length)
 
 int main(void)
 {
-    /* Tag 7 at (1, 2, 3), in the root octant. */
-    static const uint32_t sample[] = {1, 2, 7, 1, 2, 3, 1};
-    static const uint32_t root[] = {1, 0, 0, 1};
-    /* Bucket size 2; 7 at (0, 0, 0), 8 at 65535 in all, 9 at (0, 0, 0). The order is 7, 9, 8. */
-    static const uint32_t three[] = {3, 2, 7, 0, 0, 0, 2, 8, 65535, 65535, 65535, 3, 9, 0, 0, 0, 1};
-    static const uint32_t split[] = {3, 0, 1, 3, 1, 0, 0, 0, 0, 0, 0, 2, 0, 2, 2, 0, 0, 0, 0, 0, 0, 0, 0,
-                                     1, 1, 1, 0, 0, 0, 0, 0, 0, 0, 0};
+    uint32_t *const next_of_7 = samples + HBX_SAMPLE_WORDS(0) + HBX_AT_NEXT;
+    uint32_t *const tag_of_8 = samples + HBX_SAMPLE_WORDS(1) + HBX_AT_TAG;
 
     memset(samples, 0xFF, sizeof samples);
     memset(octants, 0xFF, sizeof octants);
@@ -63,17 +84,17 @@ int main(void)
     memcpy(samples, three, sizeof three);
     memcpy(octants, split, sizeof split);
     check("three samples");
-    samples[6] = 1;
+    *next_of_7 = 1;
     check("another next row");
-    samples[6] = 2;
-    samples[7] = 9;
+    *next_of_7 = 2;
+    *tag_of_8 = 9;
     check("a tag twice");
 
     clear(1, LENGTH(octants), 0); /* 1 is asked before 3 */
     clear(LENGTH(samples), 0, 2);
     clear(LENGTH(samples), LENGTH(octants), 0);
-    clear(LENGTH(samples), LENGTH(octants), 257);
-    samples[7] = 8;
+    clear(LENGTH(samples), LENGTH(octants), HBX_MOST_BUCKET + 1);
+    *tag_of_8 = 8;
     check("three samples, which the refused clears left"); /* a refusal writes nothing */
     return 0;
 }

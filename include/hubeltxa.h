@@ -1,9 +1,9 @@
 /* hubeltxa: colour samples. The calls of the static library libhubeltxa.a (x86-64 Linux).
  *
- * A code is a whole number from 0 to 65,535, and a colour is red, green and blue codes. A panel
- * colour is three 32-bit floats, red, green and blue. A sample is a tag, any 32-bit number, and a
- * colour. A sheet is a text of samples, and a sample set stands in two tables of words; both are
- * described below.
+ * A code is a whole number from 0 to HBX_MOST_CODE, and a colour is red, green and blue codes. A
+ * panel colour is three 32-bit floats, red, green and blue. A sample is a tag, any 32-bit number,
+ * and a colour. A sheet is a text of samples, and a sample set stands in two tables of words. Codes,
+ * sheets and tables are described before the calls, with a name for each of their numbers.
  *
  * A call that can refuse returns a number: 0 says that it accepted what it was given, any other why
  * it did not. hbx_name cannot refuse and returns nothing; hbx_check returns yes or no. All else
@@ -33,8 +33,8 @@ enum {
     HBX_ACCEPTED = 0,
     HBX_TOO_SHORT = 1,      /* a table is too short to be one */
     HBX_UNSOUND = 2,        /* the tables are not sound */
-    HBX_BUCKET = 3,         /* a bucket size not from 1 to 256 */
-    HBX_CODE = 4,           /* a code over 65,535 */
+    HBX_BUCKET = 3,         /* a bucket size not from 1 to HBX_MOST_BUCKET */
+    HBX_CODE = 4,           /* a code over HBX_MOST_CODE */
     HBX_KNOWN_TAG = 5,      /* the tag is there already */
     HBX_NO_ROW = 6,         /* no sample row is unused */
     HBX_NO_OCTANTS = 7,     /* too few octant rows */
@@ -46,78 +46,67 @@ enum {
     HBX_NO_ROOM = 13        /* too few bytes or words lent to write on */
 };
 
-/* The codes of a panel colour. The code of a channel v is the greatest whole k with
- * k <= 65,536 * v. A channel is good when 0 <= v < 1; minus zero counts as zero.
+/* Codes and panel floats.
  *
- * Returns 0 where all three channels are good: the three words get the codes.
- * Returns 9 where one is not (another negative, 1 or more, an infinity, a NaN): the three words
- * get 0.
+ * A code is at most 65,535 (HBX_MOST_CODE). A channel v of a panel colour is good when 0 <= v < 1
+ * (HBX_CHANNEL_LIMIT), a radius v when 0 <= v < 2 (HBX_RADIUS_LIMIT); minus zero counts as zero, and
+ * an infinity or a NaN is not good. The code of either is the greatest whole k with k <= 65,536 * v
+ * (HBX_SCALE), so that of a radius is at most 131,071 (HBX_MOST_RADIUS). A code is shown as the
+ * float code / HBX_SCALE, which is exact; the code of that is the code again.
  */
-uint32_t hbx_codes(float red, float green, float blue,
-                   uint32_t *red_code, uint32_t *green_code, uint32_t *blue_code);
+#define HBX_MOST_CODE 65535
+#define HBX_CHANNEL_LIMIT 1.0f
+#define HBX_RADIUS_LIMIT 2.0f
+#define HBX_SCALE 65536.0f
+#define HBX_MOST_RADIUS 131071
 
-/* A colour as panel floats: each code divided by 65,536, which is exact. hbx_codes gives the same
- * codes back.
+/* Sheets.
  *
- * Returns 0 where all three codes are at most 65,535: the three floats get the channels.
- * Returns 4 where one is not: the three floats get 0.
- */
-uint32_t hbx_floats(uint32_t red, uint32_t green, uint32_t blue,
-                    float *red_out, float *green_out, float *blue_out);
-
-/* A sheet is a header of 15 bytes, then lines of 62 bytes each:
+ * A sheet is a header of 15 bytes (HBX_HEADER_LENGTH), then lines of 62 bytes (HBX_LINE_LENGTH):
  *
- *     header   `SWATCHES`; the number of lines in 6 columns; a newline
- *     line     tag in 10 columns; red, green and blue in 6 columns each; a blank;
- *              the reel name at the left of 32 columns, blanks after it; a newline
+ *     header   `SWATCHES` (HBX_TITLE); the number of lines in 6 columns (HBX_COUNT_COLUMNS);
+ *              a newline
+ *     line     tag in 10 columns (HBX_TAG_COLUMNS); red, green and blue in 6 columns
+ *              (HBX_CODE_COLUMNS) each; a blank; the reel name at the left of 32 columns
+ *              (HBX_NAME_COLUMNS), blanks after it; a newline
  *
  * A number is decimal, at the right of its columns, with blanks before it and no leading zero but
- * in 0 itself. A reel name is 1 to 32 bytes, each from 33 to 126. A blank is byte 32, a newline
- * byte 10. Line k, counted from 0, starts at byte 15 + 62 * k. For example (blanks at the end of a
- * line do not show):
+ * in 0 itself. A reel name is good when it has 1 to HBX_NAME_COLUMNS bytes, each from 33 to 126. A
+ * blank is byte 32, a newline byte 10. Line k, counted from 0, starts at byte
+ * HBX_HEADER_LENGTH + HBX_LINE_LENGTH * k, and its name 29 bytes (HBX_NAME_START) after that. For
+ * example (blanks at the end of a line do not show):
  *
  *     SWATCHES     2
  *              7     0     0     0 A001
  *     4294967295 65535 65535 65535 A002
  *
- * A line is good when it is so formed, its tag is at most 4,294,967,295 and its codes are at most
- * 65,535. A header is good when it is so formed and the sheet is exactly 15 + 62 * count bytes, for
- * the count that it says. A sheet may have no lines.
+ * A line is good when it is so formed, its name is good, its first number is a tag and the others
+ * are codes. A header is good when it is so formed and the sheet is exactly as long as its count
+ * says. A sheet may have no lines.
  */
-#define HBX_HEADER_LENGTH 15
-#define HBX_LINE_LENGTH 62
+#define HBX_TITLE "SWATCHES"
+#define HBX_COUNT_COLUMNS 6
+#define HBX_HEADER_LENGTH (8 + HBX_COUNT_COLUMNS + 1) /* the title has 8 bytes */
+#define HBX_TAG_COLUMNS 10
+#define HBX_CODE_COLUMNS 6
+#define HBX_NAME_COLUMNS 32
+#define HBX_NAME_START (HBX_TAG_COLUMNS + 3 * HBX_CODE_COLUMNS + 1)
+#define HBX_LINE_LENGTH (HBX_NAME_START + HBX_NAME_COLUMNS + 1)
 
-/* Writes one line of a sheet over the first 62 of the line_len bytes at line. Bytes after the 62nd
- * stay as they were.
+/* Tables.
  *
- * Returns 0 where the line is written. Otherwise nothing is written, and the first of these that is
- * so gives the number:
- *    4  a code is over 65,535
- *   10  the name is not good: not 1 to 32 bytes, or a byte not from 33 to 126
- *   13  line_len is under 62
- */
-uint32_t hbx_line(uint32_t tag, uint32_t red, uint32_t green, uint32_t blue,
-                  const uint8_t *name, size_t name_len, uint8_t *line, size_t line_len);
-
-/* Looks up the reel name in the first line with the tag. The name is a part of the caller's own
- * sheet: the *length bytes from sheet + *start on. No null byte follows it.
+ * A sample set has 4,096 samples (HBX_MOST_SAMPLES) at most, no two with one tag, and a bucket size
+ * from 1 to 256 (HBX_MOST_BUCKET). It stands in two tables of 32-bit words that the caller lends; a
+ * length is in words. A table is a header, then rows, counted from 0:
  *
- * Both get 0 where no line has the tag, and where the header or any line is not good, also
- * one after the line with the tag. Where the name is found, *length is 1 to 32. Each call reads
- * the whole sheet.
- */
-void hbx_name(const uint8_t *sheet, size_t sheet_len, uint32_t tag, size_t *start, size_t *length);
-
-/* A sample set has samples, no two with one tag, and a bucket size from 1 to 256. It stands in two
- * tables of 32-bit words that the caller lends; a length is in words:
+ *     samples   header of 2 (HBX_SAMPLE_HEADER): sample count, bucket size;
+ *               rows of 5 (HBX_SAMPLE_ROW), as the samples came in: tag, red, green, blue, next
+ *     octants   header of 1 (HBX_OCTANT_HEADER): octant count;
+ *               rows of 11 (HBX_OCTANT_ROW): first sample row, last sample row, sample count,
+ *               child rows 0 to 7
  *
- *     samples   sample count; bucket size; then rows of 5, as the samples came in:
- *               tag, red, green, blue, next
- *     octants   octant count; then rows of 11:
- *               first sample row, last sample row, sample count, child rows 0 to 7
- *
- * Every other word is 0. There are (samples_len - 2) / 5 sample rows, rounded down, 4,096 at most,
- * and (octants_len - 1) / 11 octant rows, rounded down. Rows are counted from 0.
+ * Every other word is 0. A table has as many rows as fit after its header, but a sample table has
+ * HBX_MOST_SAMPLES at most. 17 octant rows (HBX_OCTANTS_A_SAMPLE) for each sample are always enough.
  *
  * Octant 0 is all colours. An octant is split exactly when it holds more samples than the bucket
  * size and its side is over 1, into eight children of half its side. Child number = red bit + 2 *
@@ -128,18 +117,83 @@ void hbx_name(const uint8_t *sheet, size_t sheet_len, uint32_t tag, size_t *star
  * the row of the sample that follows in it, the sample count for the last.
  *
  * Tables are sound when they are exactly those of some set.
- *
- * The words of a table with so many rows. 17 octant rows for each sample are always enough.
  */
-#define HBX_SAMPLE_WORDS(rows) (2 + 5 * (size_t)(rows))
-#define HBX_OCTANT_WORDS(rows) (1 + 11 * (size_t)(rows))
+#define HBX_SAMPLE_HEADER 2
+#define HBX_SAMPLE_ROW 5
+#define HBX_OCTANT_HEADER 1
+#define HBX_OCTANT_ROW 11
+#define HBX_MOST_SAMPLES 4096
+#define HBX_OCTANTS_A_SAMPLE 17
+#define HBX_MOST_BUCKET 256
+
+/* The words of a table with so many rows; also where the row of that number starts. */
+#define HBX_SAMPLE_WORDS(rows) (HBX_SAMPLE_HEADER + HBX_SAMPLE_ROW * (size_t)(rows))
+#define HBX_OCTANT_WORDS(rows) (HBX_OCTANT_HEADER + HBX_OCTANT_ROW * (size_t)(rows))
+
+/* Where a word stands, from the start of its table or row: samples[HBX_AT_COUNT] is the sample
+ * count, and samples[HBX_SAMPLE_WORDS(k) + HBX_AT_TAG] the tag in sample row k.
+ */
+enum {                      /* in a header */
+    HBX_AT_COUNT = 0,       /* of either table */
+    HBX_AT_BUCKET = 1       /* of the sample table */
+};
+enum {                      /* in a sample row */
+    HBX_AT_TAG = 0,
+    HBX_AT_RED = 1,
+    HBX_AT_GREEN = 2,
+    HBX_AT_BLUE = 3,
+    HBX_AT_NEXT = 4
+};
+enum {                      /* in an octant row */
+    HBX_AT_FIRST = 0,
+    HBX_AT_LAST = 1,
+    HBX_AT_SAMPLES = 2,     /* how many it holds */
+    HBX_AT_CHILDREN = 3     /* child 0; the others follow */
+};
+
+/* The codes of a panel colour.
+ *
+ * Returns 0 where all three channels are good: the three words get the codes.
+ * Returns 9 where one is not: the three words get 0.
+ */
+uint32_t hbx_codes(float red, float green, float blue,
+                   uint32_t *red_code, uint32_t *green_code, uint32_t *blue_code);
+
+/* A colour as panel floats: each code as it is shown. hbx_codes gives the same codes back.
+ *
+ * Returns 0 where all three codes are at most HBX_MOST_CODE: the three floats get the channels.
+ * Returns 4 where one is not: the three floats get 0.
+ */
+uint32_t hbx_floats(uint32_t red, uint32_t green, uint32_t blue,
+                    float *red_out, float *green_out, float *blue_out);
+
+/* Writes one line of a sheet over the first HBX_LINE_LENGTH of the line_len bytes at line. Bytes
+ * after them stay as they were.
+ *
+ * Returns 0 where the line is written. Otherwise nothing is written, and the first of these that is
+ * so gives the number:
+ *    4  a code is over HBX_MOST_CODE
+ *   10  the name is not good
+ *   13  line_len is under HBX_LINE_LENGTH
+ */
+uint32_t hbx_line(uint32_t tag, uint32_t red, uint32_t green, uint32_t blue,
+                  const uint8_t *name, size_t name_len, uint8_t *line, size_t line_len);
+
+/* Looks up the reel name in the first line with the tag. The name is a part of the caller's own
+ * sheet: the *length bytes from sheet + *start on. No null byte follows it.
+ *
+ * Both get 0 where no line has the tag, and where the header or any line is not good, also one after
+ * the line with the tag. Where the name is found, *length is 1 to HBX_NAME_COLUMNS. Each call reads
+ * the whole sheet.
+ */
+void hbx_name(const uint8_t *sheet, size_t sheet_len, uint32_t tag, size_t *start, size_t *length);
 
 /* Writes the tables of the empty set with this bucket size, whatever words they held.
  *
  * Returns 0 where they are written. Otherwise nothing is written, and the first of these that is so
  * gives the number:
- *    1  samples_len is under 2, or octants_len under 1
- *    3  the bucket size is not from 1 to 256
+ *    1  samples_len is under HBX_SAMPLE_HEADER, or octants_len under HBX_OCTANT_HEADER
+ *    3  the bucket size is not from 1 to HBX_MOST_BUCKET
  */
 uint32_t hbx_clear(uint32_t *samples, size_t samples_len, uint32_t *octants, size_t octants_len,
                    uint32_t bucket);
@@ -159,9 +213,9 @@ uint32_t hbx_check(const uint32_t *samples, size_t samples_len, const uint32_t *
  *
  * Returns 0 where it is added. Otherwise both tables are as they were, and the first of these that
  * is so gives the number:
- *    1  samples_len is under 2, or octants_len under 1
+ *    1  samples_len is under HBX_SAMPLE_HEADER, or octants_len under HBX_OCTANT_HEADER
  *    2  the tables are not sound
- *    4  a code is over 65,535
+ *    4  a code is over HBX_MOST_CODE
  *    5  a sample of the set has the tag
  *    6  no sample row is unused
  *    7  there are too few octant rows for the set with the sample
@@ -174,7 +228,7 @@ uint32_t hbx_add(uint32_t *samples, size_t samples_len, uint32_t *octants, size_
  *
  * Returns 0 where it is removed. Otherwise both tables are as they were, and the first of these that
  * is so gives the number:
- *    1  samples_len is under 2, or octants_len under 1
+ *    1  samples_len is under HBX_SAMPLE_HEADER, or octants_len under HBX_OCTANT_HEADER
  *    2  the tables are not sound
  *    8  no sample of the set has the tag
  */
@@ -186,7 +240,7 @@ uint32_t hbx_remove(uint32_t *samples, size_t samples_len, uint32_t *octants, si
  *
  * Returns 0 where every line is taken; of a sheet with no lines, that is none. Where the first of
  * these gives the number, both tables are as they were, and *taken gets 0:
- *    1  samples_len is under 2, or octants_len under 1
+ *    1  samples_len is under HBX_SAMPLE_HEADER, or octants_len under HBX_OCTANT_HEADER
  *    2  the tables are not sound
  *   11  the header is not good
  * Otherwise a line is refused. The lines before it stay in the set, as if they were the whole sheet,
@@ -201,11 +255,10 @@ uint32_t hbx_load(uint32_t *samples, size_t samples_len, uint32_t *octants, size
 
 /* A query lists the tags of the samples in a region, in the order of the samples, or finds the
  * nearest one. A ball is a panel colour, its centre, and a radius; a box is a low and a high panel
- * colour. All floats are taken as codes, by the rule of hbx_codes; a radius is good when
- * 0 <= radius < 2, so that r is 0 to 131,071. (Where r is 0 nothing is in the ball.)
+ * colour. All floats, the radius too, are taken as codes.
  *
  *     ball   samples with d^2 < r^2: d^2 is the sum of the three squared differences between the
- *            codes of sample and centre, r the radius as a code
+ *            codes of sample and centre, r the radius as a code (where r is 0 nothing is in it)
  *     box    samples with low <= code <= high in all three channels
  *
  * The tags are written from the listing's first word on; the words after them stay as they were.
@@ -213,15 +266,15 @@ uint32_t hbx_load(uint32_t *samples, size_t samples_len, uint32_t *octants, size
  * samples were looked at one by one. (An octant that lies inside the region is listed whole: it is
  * entered, and its samples are not measured.)
  *
- * A listing of samples[0] words, or of as many as there are sample rows where that is fewer, never
- * gives 13 and is written in one pass. For a shorter one the tags are counted first, and then
- * written where it holds all.
+ * A listing of samples[HBX_AT_COUNT] words, or of as many as there are sample rows where that is
+ * fewer, never gives 13 and is written in one pass. For a shorter one the tags are counted first,
+ * and then written where it holds all.
  *
  * A query does not ask whether the tables are sound: that would cost more than the query. On tables
- * that are not, nothing dangerous happens, and the call ends. A pass enters at most as many
- * octants as octants[0] says, and as there are rows, and goes through at most as many samples as
- * samples[0] says, and as there are rows. Nothing is written but the listing, up to *listed, and the
- * three reports. But the listing then means nothing: call hbx_check where in doubt.
+ * that are not, nothing dangerous happens, and the call ends. A pass enters at most as many octants
+ * as the octant table's count says, and as there are rows, and goes through at most as many samples
+ * as the sample table's count says, and as there are rows. Nothing is written but the listing, up to
+ * *listed, and the three reports. But the listing then means nothing: call hbx_check where in doubt.
  *
  * The three calls only read the tables. 8,000 bytes of stack are enough for each (measured, not
  * proved).
@@ -231,7 +284,7 @@ uint32_t hbx_load(uint32_t *samples, size_t samples_len, uint32_t *octants, size
  *
  * Returns 0 where they are listed. Otherwise the listing is as it was, the three reports get 0, and
  * the first of these that is so gives the number:
- *    1  samples_len is under 2, or octants_len under 1
+ *    1  samples_len is under HBX_SAMPLE_HEADER, or octants_len under HBX_OCTANT_HEADER
  *    9  a channel of the centre is not good, or the radius is not
  *   13  listing_len is under the number of tags to list
  */
@@ -244,7 +297,7 @@ uint32_t hbx_ball(const uint32_t *samples, size_t samples_len, const uint32_t *o
  *
  * Returns 0 where they are listed. Otherwise the listing is as it was, the three reports get 0, and
  * the first of these that is so gives the number:
- *    1  samples_len is under 2, or octants_len under 1
+ *    1  samples_len is under HBX_SAMPLE_HEADER, or octants_len under HBX_OCTANT_HEADER
  *    9  a channel of either colour is not good, or low is above high in one, as codes
  *   13  listing_len is under the number of tags to list
  */
@@ -265,7 +318,7 @@ uint32_t hbx_box(const uint32_t *samples, size_t samples_len, const uint32_t *oc
  *
  * Returns 0 where it has looked. Otherwise the three words get 0, and the first of these that is so
  * gives the number:
- *    1  samples_len is under 2, or octants_len under 1
+ *    1  samples_len is under HBX_SAMPLE_HEADER, or octants_len under HBX_OCTANT_HEADER
  *    9  a channel of the centre is not good, or the radius is not
  */
 uint32_t hbx_near(const uint32_t *samples, size_t samples_len, const uint32_t *octants,
