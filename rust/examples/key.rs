@@ -7,12 +7,12 @@
 //! MATTE is written, a PGM (P5): a pixel is white where a ball of this radius around its colour lists any sample, and
 //! black where it lists none.
 //!
-//! A value of the picture becomes the code value * 65,535 / greatest, rounded, so that black is code 0 and white
-//! 65,535: of eight bits that is value * 257, of sixteen the value itself.
+//! A value of the picture becomes the code value * MOST_CODE / greatest, rounded, so that black is code 0 and white
+//! MOST_CODE: of eight bits that is value * 257, of sixteen the value itself.
 
 mod pictures;
 
-use hubeltxa::{floats, Refusal, RefusedLoad, SampleSet};
+use hubeltxa::{floats, numbers::MOST_CODE, Refusal, RefusedLoad, SampleSet};
 use pictures::{pnm, read_file, read_picture, said, write_file, Picture};
 use std::process::ExitCode;
 
@@ -28,10 +28,10 @@ fn refused(of: &str) -> impl Fn(Refusal) -> String + '_ {
 
 fn codes(picture: &Picture, pixel: &[u16]) -> [u32; 3] {
     let maximum = picture.maximum as u32;
-    [0, 1, 2].map(|channel| (pixel[channel] as u32 * 65_535 + maximum / 2) / maximum)
+    [0, 1, 2].map(|channel| (pixel[channel] as u32 * MOST_CODE + maximum / 2) / maximum)
 }
 
-/// The samples of a sheet, 4,096 at most.
+/// The samples of a sheet, as many as a set can hold.
 fn from_sheet(path: &str) -> Result<SampleSet, String> {
     let sheet = read_file(path)?;
     let lines = sheet.len() / hubeltxa::LINE_LENGTH;
@@ -73,8 +73,9 @@ fn matte(picture: &Picture, set: &SampleSet, radius: f32) -> Result<Picture, Ref
 }
 
 fn key(arguments: &[&str]) -> Result<(), String> {
-    let [path, samples @ .., radius_text, out] = arguments else {
-        return Err(USAGE.to_string());
+    let (path, samples, radius_text, out) = match arguments {
+        [path, samples @ .., radius_text, out] => (path, samples, radius_text, out),
+        _ => return Err(USAGE.to_string()),
     };
     let picture = read_picture(path, 3)?;
     let set = match samples {

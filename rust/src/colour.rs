@@ -3,19 +3,16 @@
 use crate::raw;
 use crate::refusal::{unless_refused, Refusal};
 
-/// The codes of a panel colour: red, green, blue.
-///
-/// The code of a channel `v` is the greatest whole `k` with `k <= 65,536 * v`. Minus zero counts as
-/// zero.
+/// The codes of a panel colour: red, green, blue, by the [rule for codes](crate::numbers#codes-and-panel-floats).
 ///
 /// # Errors
-/// [`Refusal::OutOfRange`] (9) where a channel is not in `0 <= v < 1`: another negative, 1 or more, an infinity, a NaN.
+/// [`Refusal::OutOfRange`] (9) if a channel is out of range.
 ///
 /// ```
-/// use hubeltxa::Refusal;
+/// use hubeltxa::{numbers::MOST_CODE, Refusal};
 ///
-/// assert_eq!(hubeltxa::codes([0.0, 0.5, 0.999_999]), Ok([0, 32_768, 65_535]));
-/// assert_eq!(hubeltxa::codes([0.0, 0.5, 1.0]), Err(Refusal::OutOfRange));
+/// assert_eq!(hubeltxa::codes([0.0, 0.5, 0.999_999]), Ok([0, 32_768, MOST_CODE]));
+/// assert_eq!(hubeltxa::codes([0.0, 0.5, 1.5]), Err(Refusal::OutOfRange));
 /// ```
 pub fn codes(panel: [f32; 3]) -> Result<[u32; 3], Refusal> {
     let [mut red, mut green, mut blue] = [0; 3];
@@ -24,17 +21,17 @@ pub fn codes(panel: [f32; 3]) -> Result<[u32; 3], Refusal> {
     unless_refused(number, [red, green, blue])
 }
 
-/// A colour as panel floats: each code divided by 65,536, which is exact. [`codes`] gives the same
-/// codes back.
+/// A colour as panel floats: each code divided by [`SCALE`](crate::numbers::SCALE). [`codes`] gives the same codes
+/// back.
 ///
 /// # Errors
-/// [`Refusal::Code`] (4) where a code is over 65,535.
+/// [`Refusal::Code`] (4) if a code is over [`MOST_CODE`](crate::numbers::MOST_CODE).
 ///
 /// ```
-/// use hubeltxa::Refusal;
+/// use hubeltxa::{numbers::{MOST_CODE, SCALE}, Refusal};
 ///
-/// assert_eq!(hubeltxa::floats([0, 32_768, 65_535]), Ok([0.0, 0.5, 65_535.0 / 65_536.0]));
-/// assert_eq!(hubeltxa::floats([0, 32_768, 65_536]), Err(Refusal::Code));
+/// assert_eq!(hubeltxa::floats([0, 1, MOST_CODE]), Ok([0.0, 1.0 / SCALE, MOST_CODE as f32 / SCALE]));
+/// assert_eq!(hubeltxa::floats([0, 1, MOST_CODE + 1]), Err(Refusal::Code));
 /// ```
 pub fn floats(codes: [u32; 3]) -> Result<[f32; 3], Refusal> {
     let [mut red, mut green, mut blue] = [0.0; 3];

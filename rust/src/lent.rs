@@ -12,42 +12,26 @@ use crate::answer::{Listed, Nearest};
 use crate::raw;
 use crate::refusal::{unless_refused, Refusal, RefusedLoad};
 
-/// The words of a sample table with so many rows: 4,096 at most are used.
-///
-/// ```
-/// let samples = [0; hubeltxa::lent::sample_words(512)];
-/// assert_eq!(samples.len(), 2 + 5 * 512);
-/// ```
-pub const fn sample_words(rows: usize) -> usize {
-    2 + 5 * rows
-}
-
-/// The words of an octant table with so many rows. A set of n samples never needs more than 17 * n.
-///
-/// ```
-/// let octants = [0; hubeltxa::lent::octant_words(1_489)];
-/// assert_eq!(octants.len(), 1 + 11 * 1_489);
-/// ```
-pub const fn octant_words(rows: usize) -> usize {
-    1 + 11 * rows
-}
+pub use crate::numbers::{octant_words, sample_words};
 
 /// Writes the tables of the empty set with this bucket size, whatever words they held.
 ///
 /// # Errors
 /// The first of these that is so; nothing is written then:
-/// - [`Refusal::TooShort`] (1) where `samples` has fewer than 2 words or `octants` none;
-/// - [`Refusal::Bucket`] (3) where the bucket size is not from 1 to 256.
+/// - [`Refusal::TooShort`] (1) if a table is shorter than its header;
+/// - [`Refusal::Bucket`] (3) if the bucket size is not from 1 to [`MOST_BUCKET`](crate::numbers::MOST_BUCKET).
 ///
 /// ```
-/// use hubeltxa::{lent, Refusal};
+/// use hubeltxa::{lent, numbers, Refusal};
 ///
-/// let (mut samples, mut octants) = ([9; 12], [9; 12]);
-/// assert_eq!(lent::clear(&mut samples, &mut octants, 257), Err(Refusal::Bucket));
-/// assert_eq!((samples, octants), ([9; 12], [9; 12]));
+/// let (mut samples, mut octants) = ([9; lent::sample_words(2)], [9; lent::octant_words(1)]);
+/// assert_eq!(lent::clear(&mut samples, &mut octants, numbers::MOST_BUCKET + 1), Err(Refusal::Bucket));
+/// assert!(samples.iter().chain(&octants).all(|&word| word == 9));
 ///
-/// lent::clear(&mut samples, &mut octants, 256)?;
-/// assert_eq!((samples, octants), ([0, 256, 0, 0, 0, 0, 0, 0, 0, 0, 0, 0], [0; 12]));
+/// lent::clear(&mut samples, &mut octants, numbers::MOST_BUCKET)?;
+/// assert!(lent::check(&samples, &octants));
+/// assert_eq!((numbers::sample_count(&samples), numbers::octant_count(&octants)), (0, 0));
+/// assert_eq!(numbers::bucket(&samples), numbers::MOST_BUCKET);
 /// # Ok::<(), Refusal>(())
 /// ```
 pub fn clear(samples: &mut [u32], octants: &mut [u32], bucket: u32) -> Result<(), Refusal> {
@@ -63,13 +47,15 @@ pub fn clear(samples: &mut [u32], octants: &mut [u32], bucket: u32) -> Result<()
 /// ```
 /// use hubeltxa::lent;
 ///
-/// // A set of one sample, tag 7, red 1, green 2, blue 3, with bucket size 16.
-/// let samples = [1, 16, 7, 1, 2, 3, 1];
-/// let mut octants = [1, 0, 0, 1, 0, 0, 0, 0, 0, 0, 0, 0];
+/// let (mut samples, mut octants) = ([0; lent::sample_words(1)], [0; lent::octant_words(1)]);
+/// assert!(!lent::check(&samples, &octants)); // no bucket size yet
+/// lent::clear(&mut samples, &mut octants, 16)?;
 /// assert!(lent::check(&samples, &octants));
 ///
-/// octants[3] = 2; // one sample too many
-/// assert!(!lent::check(&samples, &octants));
+/// lent::add(&mut samples, &mut octants, 7, [1, 2, 3])?;
+/// assert!(lent::check(&samples, &octants));
+/// assert!(!lent::check(&samples, &[0; lent::octant_words(1)])); // a sample, and no octant
+/// # Ok::<(), hubeltxa::Refusal>(())
 /// ```
 pub fn check(samples: &[u32], octants: &[u32]) -> bool {
     // SAFETY: each pointer and length is a slice's.
@@ -80,15 +66,15 @@ pub fn check(samples: &[u32], octants: &[u32]) -> bool {
 ///
 /// # Errors
 /// The first of these that is so; both tables are as they were then:
-/// - [`Refusal::TooShort`] (1) where `samples` has fewer than 2 words or `octants` none;
+/// - [`Refusal::TooShort`] (1) if a table is shorter than its header;
 /// - [`Refusal::Unsound`] (2) where the tables are not sound;
-/// - [`Refusal::Code`] (4) where a code is over 65,535;
+/// - [`Refusal::Code`] (4) if a code is over [`MOST_CODE`](crate::numbers::MOST_CODE);
 /// - [`Refusal::KnownTag`] (5) where a sample of the set has the tag;
 /// - [`Refusal::NoRow`] (6) where no sample row is unused;
 /// - [`Refusal::NoOctants`] (7) where there are too few octant rows for the set with the sample.
 ///
 /// ```
-/// use hubeltxa::{lent, Refusal};
+/// use hubeltxa::{lent, numbers, Refusal};
 ///
 /// // Two sample rows, and octant rows enough.
 /// let (mut samples, mut octants) = ([0; lent::sample_words(2)], [0; lent::octant_words(40)]);
@@ -96,9 +82,10 @@ pub fn check(samples: &[u32], octants: &[u32]) -> bool {
 ///
 /// lent::clear(&mut samples, &mut octants, 16)?;
 /// lent::add(&mut samples, &mut octants, 7, [1, 2, 3])?;
-/// assert_eq!(samples, [1, 16, 7, 1, 2, 3, 1, 0, 0, 0, 0, 0]);
+/// assert_eq!(numbers::sample_count(&samples), 1);
+/// assert_eq!((numbers::sample_tag(&samples, 0), numbers::sample_codes(&samples, 0)), (7, [1, 2, 3]));
 ///
-/// assert_eq!(lent::add(&mut samples, &mut octants, 8, [1, 2, 65_536]), Err(Refusal::Code));
+/// assert_eq!(lent::add(&mut samples, &mut octants, 8, [1, 2, numbers::MOST_CODE + 1]), Err(Refusal::Code));
 /// assert_eq!(lent::add(&mut samples, &mut octants, 7, [4, 5, 6]), Err(Refusal::KnownTag));
 /// lent::add(&mut samples, &mut octants, 8, [4, 5, 6])?;
 /// assert_eq!(lent::add(&mut samples, &mut octants, 9, [4, 5, 6]), Err(Refusal::NoRow));
@@ -117,21 +104,22 @@ pub fn add(samples: &mut [u32], octants: &mut [u32], tag: u32, codes: [u32; 3]) 
 ///
 /// # Errors
 /// The first of these that is so; both tables are as they were then:
-/// - [`Refusal::TooShort`] (1) where `samples` has fewer than 2 words or `octants` none;
+/// - [`Refusal::TooShort`] (1) if a table is shorter than its header;
 /// - [`Refusal::Unsound`] (2) where the tables are not sound;
 /// - [`Refusal::UnknownTag`] (8) where no sample of the set has the tag.
 ///
 /// ```
-/// use hubeltxa::{lent, Refusal};
+/// use hubeltxa::{lent, numbers, Refusal};
 ///
-/// let (mut samples, mut octants) = ([0; 12], [0; 12]);
+/// let (mut samples, mut octants) = ([0; lent::sample_words(2)], [0; lent::octant_words(1)]);
 /// lent::clear(&mut samples, &mut octants, 16)?;
 /// lent::add(&mut samples, &mut octants, 7, [1, 2, 3])?;
 /// lent::add(&mut samples, &mut octants, 8, [4, 5, 6])?;
 ///
 /// assert_eq!(lent::remove(&mut samples, &mut octants, 9), Err(Refusal::UnknownTag));
 /// lent::remove(&mut samples, &mut octants, 7)?;
-/// assert_eq!(samples, [1, 16, 8, 4, 5, 6, 1, 0, 0, 0, 0, 0]);
+/// assert_eq!(numbers::sample_count(&samples), 1);
+/// assert_eq!((numbers::sample_tag(&samples, 0), numbers::sample_codes(&samples, 0)), (8, [4, 5, 6]));
 /// # Ok::<(), Refusal>(())
 /// ```
 pub fn remove(samples: &mut [u32], octants: &mut [u32], tag: u32) -> Result<(), Refusal> {
@@ -146,7 +134,7 @@ pub fn remove(samples: &mut [u32], octants: &mut [u32], tag: u32) -> Result<(), 
 ///
 /// # Errors
 /// The first of these that is so; both tables are as they were then, and `taken` is 0:
-/// - [`Refusal::TooShort`] (1) where `samples` has fewer than 2 words or `octants` none;
+/// - [`Refusal::TooShort`] (1) if a table is shorter than its header;
 /// - [`Refusal::Unsound`] (2) where the tables are not sound;
 /// - [`Refusal::Header`] (11) where the header is not good.
 ///
@@ -158,20 +146,23 @@ pub fn remove(samples: &mut [u32], octants: &mut [u32], tag: u32) -> Result<(), 
 /// - [`Refusal::NoOctants`] (7) where there are too few octant rows for the set with the sample.
 ///
 /// ```
-/// use hubeltxa::{lent, Refusal, RefusedLoad};
+/// use hubeltxa::numbers::{sample_tag, COUNT_COLUMNS, LINE_LENGTH, TITLE};
+/// use hubeltxa::{lent, write_line, Refusal, RefusedLoad};
 ///
-/// let sheet = b"SWATCHES     2\n\
-///               \x20        7     0     0     0 A001                            \n\
-///               \x20        8 65535 65535 65535 A002                            \n";
-/// let (mut samples, mut octants) = ([0; 12], [0; lent::octant_words(3)]);
+/// let mut lines = [[0; LINE_LENGTH]; 2];
+/// write_line(7, [0; 3], b"A001", &mut lines[0])?;
+/// write_line(8, [65_535; 3], b"A002", &mut lines[1])?;
+/// let sheet = [format!("{TITLE}{:>COUNT_COLUMNS$}\n", 2).as_bytes(), &lines.concat()].concat();
+///
+/// let (mut samples, mut octants) = ([0; lent::sample_words(2)], [0; lent::octant_words(3)]);
 /// lent::clear(&mut samples, &mut octants, 16)?;
-/// assert_eq!(lent::load(&mut samples, &mut octants, sheet), Ok(2));
-/// assert_eq!(samples, [2, 16, 7, 0, 0, 0, 1, 8, 65_535, 65_535, 65_535, 2]);
+/// assert_eq!(lent::load(&mut samples, &mut octants, &sheet), Ok(2));
+/// assert_eq!([0, 1].map(|row| sample_tag(&samples, row)), [7, 8]);
 ///
 /// lent::remove(&mut samples, &mut octants, 7)?;
 /// let refused = RefusedLoad { refusal: Refusal::KnownTag, taken: 1 }; // 7 is taken again, and 8 is in the set
-/// assert_eq!(lent::load(&mut samples, &mut octants, sheet), Err(refused));
-/// assert_eq!(samples, [2, 16, 8, 65_535, 65_535, 65_535, 1, 7, 0, 0, 0, 2]);
+/// assert_eq!(lent::load(&mut samples, &mut octants, &sheet), Err(refused));
+/// assert_eq!([0, 1].map(|row| sample_tag(&samples, row)), [8, 7]);
 /// # Ok::<(), Refusal>(())
 /// ```
 pub fn load(samples: &mut [u32], octants: &mut [u32], sheet: &[u8]) -> Result<u32, RefusedLoad> {
@@ -190,17 +181,16 @@ pub fn load(samples: &mut [u32], octants: &mut [u32], sheet: &[u8]) -> Result<u3
 /// d² is the sum of the three squared differences between its codes and the centre's, r the radius as a
 /// code.
 ///
-/// A listing of as many words as samples (`samples[0]`, or the sample rows where they are fewer) is never
-/// too short, and is written in one pass. For a shorter one the tags are counted first.
+/// A listing of as many words as samples (the table's count, or the sample rows if they are fewer) is never too short,
+/// and is written in one pass. For a shorter one the tags are counted first.
 ///
 /// The call does not ask whether the tables are sound, which would cost more than the query. On tables that
 /// are not it ends as well, and writes nothing else, but the listing then means nothing: see [`check`].
 ///
 /// # Errors
 /// The first of these that is so; the listing is as it was then:
-/// - [`Refusal::TooShort`] (1) where `samples` has fewer than 2 words or `octants` none;
-/// - [`Refusal::OutOfRange`] (9) where a channel of the centre is not in `0 <= v < 1`, or the radius not in
-///   `0 <= v < 2`;
+/// - [`Refusal::TooShort`] (1) if a table is shorter than its header;
+/// - [`Refusal::OutOfRange`] (9) if a channel of the centre or the radius is out of range;
 /// - [`Refusal::NoRoom`] (13) where the listing is shorter than all that is in the ball.
 ///
 /// ```
@@ -219,7 +209,7 @@ pub fn load(samples: &mut [u32], octants: &mut [u32], sheet: &[u8]) -> Result<u3
 /// let all = lent::ball(&samples, &octants, [0.0; 3], 1.999, &mut listing)?;
 /// assert_eq!(all, Listed { tags: &[7, 9, 8], entered: 1, measured: 0 });
 ///
-/// assert_eq!(lent::ball(&samples, &octants, [0.0; 3], 2.0, &mut listing), Err(Refusal::OutOfRange));
+/// assert_eq!(lent::ball(&samples, &octants, [0.0; 3], 2.5, &mut listing), Err(Refusal::OutOfRange));
 /// assert_eq!(lent::ball(&samples, &octants, [0.0; 3], 1.999, &mut listing[..2]), Err(Refusal::NoRoom));
 /// # Ok::<(), Refusal>(())
 /// ```
@@ -261,9 +251,8 @@ pub fn ball<'a>(
 ///
 /// # Errors
 /// The first of these that is so; the listing is as it was then:
-/// - [`Refusal::TooShort`] (1) where `samples` has fewer than 2 words or `octants` none;
-/// - [`Refusal::OutOfRange`] (9) where a channel of either colour is not in `0 <= v < 1`, or low is above high in one,
-///   as codes;
+/// - [`Refusal::TooShort`] (1) if a table is shorter than its header;
+/// - [`Refusal::OutOfRange`] (9) if a channel of either colour is out of range, or low is above high in one, as codes;
 /// - [`Refusal::NoRoom`] (13) where the listing is shorter than all that is in the box.
 ///
 /// ```
@@ -325,12 +314,11 @@ pub fn box_<'a>(
 ///
 /// # Errors
 /// The first of these that is so:
-/// - [`Refusal::TooShort`] (1) where `samples` has fewer than 2 words or `octants` none;
-/// - [`Refusal::OutOfRange`] (9) where a channel of the centre is not in `0 <= v < 1`, or the radius not in
-///   `0 <= v < 2`.
+/// - [`Refusal::TooShort`] (1) if a table is shorter than its header;
+/// - [`Refusal::OutOfRange`] (9) if a channel of the centre or the radius is out of range.
 ///
 /// ```
-/// use hubeltxa::{lent, Nearest, Refusal};
+/// use hubeltxa::{lent, numbers::SCALE, Nearest, Refusal};
 ///
 /// let (mut samples, mut octants) = ([0; lent::sample_words(3)], [0; lent::octant_words(3)]);
 /// lent::clear(&mut samples, &mut octants, 2)?;
@@ -338,14 +326,14 @@ pub fn box_<'a>(
 ///     lent::add(&mut samples, &mut octants, tag, [grey; 3])?;
 /// }
 ///
-/// let dark = [3.0 / 65_536.0; 3]; // code 3 in each channel
+/// let dark = [3.0 / SCALE; 3]; // code 3 in each channel
 /// let near_dark = lent::nearest(&samples, &octants, dark, 0.001)?;
 /// assert_eq!(near_dark, Some(Nearest { tag: 7, distance: 27 })); // 9 is as near, and after it
 /// lent::remove(&mut samples, &mut octants, 7)?;
 /// assert_eq!(lent::nearest(&samples, &octants, dark, 0.001)?, Some(Nearest { tag: 9, distance: 27 }));
 ///
 /// assert_eq!(lent::nearest(&samples, &octants, [0.5; 3], 0.001)?, None);
-/// assert_eq!(lent::nearest(&samples, &octants, [0.5; 3], 2.0), Err(Refusal::OutOfRange));
+/// assert_eq!(lent::nearest(&samples, &octants, [0.5; 3], 2.5), Err(Refusal::OutOfRange));
 /// # Ok::<(), Refusal>(())
 /// ```
 pub fn nearest(samples: &[u32], octants: &[u32], centre: [f32; 3], radius: f32) -> Result<Option<Nearest>, Refusal> {

@@ -42,9 +42,10 @@
 //! }
 //! ```
 //!
-//! A *code* is a whole number from 0 to 65,535, and a colour is red, green and blue codes. A *panel
-//! colour* is three 32-bit floats, red, green and blue, each from 0 up to but not including 1;
-//! [`codes`] and [`floats`] go from one to the other. A *sample* is a tag, any 32-bit number, and a colour.
+//! A *code* is a whole number from 0 to [`MOST_CODE`](numbers::MOST_CODE), and a colour is red, green and blue codes. A
+//! *panel colour* is three 32-bit floats, red, green and blue; [`codes`] and [`floats`] go from one to the other. A
+//! *sample* is a tag, any 32-bit number, and a colour. A *sheet* is a text of samples, each with the name of the reel
+//! that it was taken from.
 //!
 //! A *query* lists the tags of the samples in a ball or in a box, or finds the sample nearest to a colour.
 //!
@@ -52,43 +53,25 @@
 //! took: [`RefusedLoad`]. There is no state but a set's own, and calls may be made from any thread.
 //!
 //! The calls on tables that a program lends itself, as from C, are in [`lent`](mod@lent); the C functions in [`raw`].
-//! To build this crate, run `make lib` at the root of the repository first.
-//!
-//! # Sheets
-//!
-//! A *sheet* is a text of samples, each with a *reel name*: a header of 15 bytes, which are
-//! `SWATCHES`, the number of lines in 6 columns and a newline; then lines of 62 bytes, which are the
-//! tag in 10 columns, red, green and blue in 6 each, a blank, the reel name at the left of 32 columns
-//! with blanks after it, and a newline. A number is decimal, at the right of its columns, with blanks
-//! before it and no leading zero but in 0 itself. A name is 1 to 32 bytes, each from 33 to 126. A
-//! blank is byte 32, a newline byte 10. A line is good when it is so formed and its tag and codes are
-//! in range; a header is good when it is so formed and the sheet is exactly as long as its count says.
+//! What a sheet and the words of tables are is described in [`numbers`], which has all their numbers by name. To build
+//! this crate, run `make lib` at the root of the repository first.
 //!
 //! # Tables
 //!
-//! A *set* of samples stands in two *tables* of 32-bit words, with no tag twice and a *bucket size* from
-//! 1 to 256. The octant table is an octree of the colours: an octant is split exactly when it holds more
-//! samples than the bucket size and its side is over 1. The *order* goes through the children of a split
-//! octant, 0 to 7 (red bit + 2 * green bit + 4 * blue bit), and through the samples of another as they
-//! came in.
+//! A *set* of samples stands in two *tables* of 32-bit words, with no tag twice and a *bucket size* from 1 to
+//! [`MOST_BUCKET`](numbers::MOST_BUCKET). The octant table is an octree of the colours: an octant is split exactly when
+//! it holds more samples than the bucket size and its side is over 1. The *order* goes through the children of a split
+//! octant, 0 to 7 (red bit + 2 * green bit + 4 * blue bit), and through the samples of another as they came in.
 //!
-//! - The sample table has the sample count, the bucket size, then rows of five words, as the samples
-//!   came in: tag, red, green, blue, next. Next is the row of the sample that follows in the order, the
-//!   count for the last. A table of n words has (n - 2) / 5 rows, 4,096 at most.
-//! - The octant table has the octant count, then rows of eleven words, an octant before its children and
-//!   child 0's whole subtree before child 1's: first sample row and last sample row in the order, sample
-//!   count, the rows of children 0 to 7, 0 where a child holds nothing. A table of n words has
-//!   (n - 1) / 11 rows.
-//!
-//! Every other word is 0. Tables are *sound* when they are exactly those of some set. A [`SampleSet`]'s always
-//! are. A query of [`lent`](mod@lent) does not ask; on tables that are not sound it is safe, and what it answers means
-//! nothing.
+//! Tables are *sound* when they are exactly those of some set. A [`SampleSet`]'s always are. A query of
+//! [`lent`](mod@lent) does not ask; on tables that are not sound it is safe, and what it answers means nothing.
 
 #![deny(missing_docs)]
 
 mod answer;
 mod colour;
 pub mod lent;
+pub mod numbers;
 pub mod raw;
 mod refusal;
 mod set;
@@ -96,9 +79,10 @@ mod sheet;
 
 pub use answer::{Listed, Nearest};
 pub use colour::{codes, floats};
+pub use numbers::{HEADER_LENGTH, LINE_LENGTH};
 pub use refusal::{Refusal, RefusedLoad};
 pub use set::{Sample, SampleSet};
-pub use sheet::{name, write_line, HEADER_LENGTH, LINE_LENGTH};
+pub use sheet::{name, write_line};
 
 /// The page of Rust in README is run as a test.
 #[cfg(doctest)]

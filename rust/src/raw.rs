@@ -3,8 +3,8 @@
 //! ```
 //! let [mut red, mut green, mut blue] = [0; 3];
 //! // SAFETY: the pointers are to three locals.
-//! let number = unsafe { hubeltxa::raw::hbx_codes(0.25, 0.5, 0.75, &mut red, &mut green, &mut blue) };
-//! assert_eq!((number, [red, green, blue]), (0, [16_384, 32_768, 49_152]));
+//! let number = unsafe { hubeltxa::raw::hbx_codes(0.0, 0.25, 0.5, &mut red, &mut green, &mut blue) };
+//! assert_eq!((number, [red, green, blue]), (0, [0, 16_384, 32_768]));
 //! ```
 
 extern "C" {

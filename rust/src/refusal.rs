@@ -1,5 +1,6 @@
 //! Why a call was refused.
 
+use crate::numbers::{CHANNEL_LIMIT, MOST_BUCKET, MOST_CODE, NAME_COLUMNS, RADIUS_LIMIT, SAMPLE_HEADER};
 use std::error::Error;
 use std::fmt::{self, Display, Formatter};
 
@@ -14,7 +15,7 @@ use std::fmt::{self, Display, Formatter};
 /// ```
 /// use hubeltxa::Refusal;
 ///
-/// let refused = hubeltxa::codes([0.25, 0.5, 1.0]).unwrap_err();
+/// let refused = hubeltxa::codes([0.25, 0.5, 1.5]).unwrap_err();
 /// assert_eq!(refused, Refusal::OutOfRange);
 /// assert_eq!(refused.number(), 9);
 /// println!("{refused}"); // what it means, in a sentence
@@ -23,37 +24,39 @@ use std::fmt::{self, Display, Formatter};
 #[non_exhaustive]
 #[repr(u32)]
 pub enum Refusal {
-    /// The sample table has under 2 words, or the octant table none. Lend longer tables.
+    /// A table is shorter than its header: [`SAMPLE_HEADER`], [`OCTANT_HEADER`](crate::numbers::OCTANT_HEADER). Lend
+    /// longer tables.
     TooShort = 1,
     /// The tables are not sound: never cleared, written by others, or copied in part. Clear them, and add or load the
     /// samples again.
     Unsound = 2,
-    /// A bucket size not from 1 to 256. Give one that is.
+    /// A bucket size not from 1 to [`MOST_BUCKET`]. Give one that is.
     Bucket = 3,
-    /// A code over 65,535. Give codes in range, as [`codes`](crate::codes) does.
+    /// A code over [`MOST_CODE`]. Give codes in range, as [`codes`](crate::codes) does.
     Code = 4,
     /// A sample of the set, or of an earlier line of the sheet, has the tag. Take another tag, or remove that sample
     /// first.
     KnownTag = 5,
-    /// No sample row is unused. Remove samples, or make room for more, up to 4,096:
-    /// [`reserve`](crate::SampleSet::reserve) in a set, a longer sample table where it is lent.
+    /// No sample row is unused. Remove samples, or make room for more, up to
+    /// [`MOST_SAMPLES`](crate::numbers::MOST_SAMPLES): [`reserve`](crate::SampleSet::reserve) in a set, a longer sample
+    /// table where it is lent.
     NoRow = 6,
     /// Too few octant rows for the set with the sample. Make room for more: [`reserve`](crate::SampleSet::reserve) in a
     /// set, a longer octant table where it is lent. Or clear with a larger bucket size and load again.
     NoOctants = 7,
     /// No sample of the set has the tag. Nothing to do: it is not there.
     UnknownTag = 8,
-    /// A channel not in 0 ≤ v < 1, or a radius not in 0 ≤ v < 2 (minus zero counts as zero); or a box whose low is
-    /// above its high in a channel, as codes. Bring the floats into range, or in order.
+    /// A channel or a radius out of range: see [`CHANNEL_LIMIT`] and [`RADIUS_LIMIT`]; or a box whose low is above its
+    /// high in a channel, as codes. Bring the floats into range, or in order.
     OutOfRange = 9,
-    /// A name that is not 1 to 32 bytes from 33 to 126. Give another; none is ever cut to fit.
+    /// A name that is not 1 to [`NAME_COLUMNS`] bytes from 33 to 126. Give another; none is ever cut to fit.
     Name = 10,
     /// The header of the sheet is not good, or the sheet not as long as it says. Mend the sheet; nothing was taken.
     Header = 11,
     /// The line of the sheet is not good. Mend it.
     Line = 12,
-    /// Fewer than 62 bytes lent for a line, or a listing shorter than all that a query lists. Lend 62; lend as many
-    /// words as samples, which is always enough.
+    /// Fewer than [`LINE_LENGTH`](crate::LINE_LENGTH) bytes lent for a line, or a listing shorter than all that a query
+    /// lists. Lend so many bytes; lend as many words as samples, which is always enough.
     NoRoom = 13,
 }
 
@@ -101,23 +104,27 @@ impl Refusal {
 
 impl Display for Refusal {
     fn fmt(&self, f: &mut Formatter<'_>) -> fmt::Result {
-        f.write_str(match self {
-            Refusal::TooShort => "the sample table has under 2 words, or the octant table none",
-            Refusal::Unsound => "the tables are not sound",
-            Refusal::Bucket => "the bucket size is not from 1 to 256",
-            Refusal::Code => "a code is over 65,535",
-            Refusal::KnownTag => "a sample of the set, or of an earlier line of the sheet, has the tag",
-            Refusal::NoRow => "no sample row is unused",
-            Refusal::NoOctants => "there are too few octant rows for the set with the sample",
-            Refusal::UnknownTag => "no sample of the set has the tag",
-            Refusal::OutOfRange => {
-                "a channel is not in 0 <= v < 1, a radius not in 0 <= v < 2, or a box's low above its high"
+        match self {
+            Refusal::TooShort => {
+                write!(f, "the sample table has under {SAMPLE_HEADER} words, or the octant table none")
             }
-            Refusal::Name => "the name is not 1 to 32 bytes from 33 to 126",
-            Refusal::Header => "the sheet's header is not good, or the sheet not as long as it says",
-            Refusal::Line => "the line is not good",
-            Refusal::NoRoom => "fewer bytes are lent than a line has, or fewer words than a query lists",
-        })
+            Refusal::Unsound => write!(f, "the tables are not sound"),
+            Refusal::Bucket => write!(f, "the bucket size is not from 1 to {MOST_BUCKET}"),
+            Refusal::Code => write!(f, "a code is over {},{:03}", MOST_CODE / 1_000, MOST_CODE % 1_000),
+            Refusal::KnownTag => write!(f, "a sample of the set, or of an earlier line of the sheet, has the tag"),
+            Refusal::NoRow => write!(f, "no sample row is unused"),
+            Refusal::NoOctants => write!(f, "there are too few octant rows for the set with the sample"),
+            Refusal::UnknownTag => write!(f, "no sample of the set has the tag"),
+            Refusal::OutOfRange => write!(
+                f,
+                "a channel is not in 0 <= v < {CHANNEL_LIMIT}, a radius not in 0 <= v < {RADIUS_LIMIT}, \
+                 or a box's low above its high"
+            ),
+            Refusal::Name => write!(f, "the name is not 1 to {NAME_COLUMNS} bytes from 33 to 126"),
+            Refusal::Header => write!(f, "the sheet's header is not good, or the sheet not as long as it says"),
+            Refusal::Line => write!(f, "the line is not good"),
+            Refusal::NoRoom => write!(f, "fewer bytes are lent than a line has, or fewer words than a query lists"),
+        }
     }
 }
 
@@ -135,13 +142,16 @@ impl From<Refusal> for u32 {
 /// the lines from [`line`](RefusedLoad::line) on, or clear the set and load anew.
 ///
 /// ```
-/// use hubeltxa::{Refusal, RefusedLoad, SampleSet};
+/// use hubeltxa::numbers::{COUNT_COLUMNS, LINE_LENGTH, TITLE};
+/// use hubeltxa::{write_line, Refusal, RefusedLoad, SampleSet};
 ///
-/// let sheet = b"SWATCHES     2\n\
-///               \x20        7     0     0     0 A001                            \n\
-///               \x20        7 65535 65535 65535 A002                            \n";
+/// let mut line = [0; LINE_LENGTH];
+/// write_line(7, [0; 3], b"A001", &mut line)?;
+/// let header = format!("{TITLE}{:>COUNT_COLUMNS$}\n", 2);
+/// let sheet = [header.as_bytes(), &line, &line].concat(); // the same line twice
+///
 /// let mut set = SampleSet::for_samples(100, 16)?;
-/// let refused = set.load(sheet).unwrap_err();
+/// let refused = set.load(&sheet).unwrap_err();
 /// assert_eq!(refused, RefusedLoad { refusal: Refusal::KnownTag, taken: 1 });
 /// assert_eq!(refused.line(), Some(1));
 /// assert_eq!(set.len(), 1); // line 0 stays
@@ -197,7 +207,7 @@ mod tests {
     #[test]
     fn each_number_is_a_case_of_its_own() {
         let said = [
-            "under 2 words",
+            "the octant table none",
             "not sound",
             "bucket size",
             "a code",

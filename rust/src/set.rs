@@ -1,8 +1,8 @@
 //! A sample set that owns its tables.
 
 use crate::answer::{Listed, Nearest};
-use crate::lent;
 use crate::refusal::{Refusal, RefusedLoad};
+use crate::{lent, numbers};
 use std::fmt::{self, Debug, Formatter};
 
 /// A tag and a colour: see [`SampleSet::samples`] and [`SampleSet::in_order`].
@@ -19,7 +19,7 @@ use std::fmt::{self, Debug, Formatter};
 pub struct Sample {
     /// Any 32-bit number; no two samples of a set have the same.
     pub tag: u32,
-    /// Red, green and blue, each from 0 to 65,535.
+    /// Red, green and blue, each from 0 to [`MOST_CODE`](numbers::MOST_CODE).
     pub codes: [u32; 3],
 }
 
@@ -69,7 +69,7 @@ impl SampleSet {
     /// assert_eq!(SampleSet::for_samples(1_000_000, 16)?.capacity(), SampleSet::MOST_SAMPLES);
     /// # Ok::<(), hubeltxa::Refusal>(())
     /// ```
-    pub const MOST_SAMPLES: usize = 4_096;
+    pub const MOST_SAMPLES: usize = numbers::MOST_SAMPLES;
 
     /// As many octants for each sample are always enough (proved).
     ///
@@ -80,25 +80,26 @@ impl SampleSet {
     /// assert_eq!(set, SampleSet::for_samples(512, 16)?);
     /// # Ok::<(), hubeltxa::Refusal>(())
     /// ```
-    pub const OCTANTS_PER_SAMPLE: usize = 17;
+    pub const OCTANTS_PER_SAMPLE: usize = numbers::OCTANTS_A_SAMPLE;
 
     /// An empty set with room for so many samples and so many octants, and this bucket size.
     ///
-    /// Rows that no set can use are not made: the set has 4,096 sample rows and 17 * 4,096 octant rows at most.
+    /// Rows that no set can use are not made: the set has at most [`MOST_SAMPLES`](SampleSet::MOST_SAMPLES) sample rows,
+    /// and [`OCTANTS_PER_SAMPLE`](SampleSet::OCTANTS_PER_SAMPLE) times as many octant rows.
     /// [`capacity`](SampleSet::capacity) says how many samples there is room for. How many octants a set needs depends
     /// on its colours; [`for_samples`](SampleSet::for_samples) makes enough for any, and
     /// [`reserve`](SampleSet::reserve) makes more later.
     ///
     /// # Errors
-    /// [`Refusal::Bucket`] (3) where the bucket size is not from 1 to 256.
+    /// [`Refusal::Bucket`] (3) if the bucket size is not from 1 to [`MOST_BUCKET`](numbers::MOST_BUCKET).
     ///
     /// ```
-    /// use hubeltxa::{Refusal, SampleSet};
+    /// use hubeltxa::{numbers::MOST_BUCKET, Refusal, SampleSet};
     ///
     /// let set = SampleSet::new(512, 1_489, 16)?;
     /// assert_eq!((set.len(), set.capacity(), set.octant_capacity()), (0, 512, 1_489));
-    /// assert_eq!(SampleSet::new(5_000, 100, 16)?.capacity(), 4_096);
-    /// assert_eq!(SampleSet::new(512, 1_489, 257), Err(Refusal::Bucket));
+    /// assert_eq!(SampleSet::new(1_000_000, 100, 16)?.capacity(), SampleSet::MOST_SAMPLES);
+    /// assert_eq!(SampleSet::new(512, 1_489, MOST_BUCKET + 1), Err(Refusal::Bucket));
     /// # Ok::<(), Refusal>(())
     /// ```
     pub fn new(sample_rows: usize, octant_rows: usize, bucket: u32) -> Result<Self, Refusal> {
@@ -108,16 +109,19 @@ impl SampleSet {
         Ok(set)
     }
 
-    /// An empty set with room for so many samples of any colours, 4,096 at most: with these rows it never gives
-    /// [`NoOctants`](Refusal::NoOctants). That takes 17 octants a sample, 768 bytes with the sample's own row; a set of
-    /// usual colours with a bucket size of 16 needs far fewer: see [`new`](SampleSet::new).
+    /// An empty set with room for so many samples of any colours, [`MOST_SAMPLES`](SampleSet::MOST_SAMPLES) at most:
+    /// with these rows it never gives [`NoOctants`](Refusal::NoOctants). That takes
+    /// [`OCTANTS_PER_SAMPLE`](SampleSet::OCTANTS_PER_SAMPLE) octants for each, many times the words of the sample's own
+    /// row; a set of usual colours with a bucket size of 16 needs far fewer: see [`new`](SampleSet::new).
     ///
     /// # Errors
-    /// [`Refusal::Bucket`] (3) where the bucket size is not from 1 to 256.
+    /// [`Refusal::Bucket`] (3) if the bucket size is not from 1 to [`MOST_BUCKET`](numbers::MOST_BUCKET).
     ///
     /// ```
-    /// let set = hubeltxa::SampleSet::for_samples(100, 16)?;
-    /// assert_eq!((set.capacity(), set.octant_capacity()), (100, 1_700));
+    /// use hubeltxa::SampleSet;
+    ///
+    /// let set = SampleSet::for_samples(100, 16)?;
+    /// assert_eq!((set.capacity(), set.octant_capacity()), (100, 100 * SampleSet::OCTANTS_PER_SAMPLE));
     /// # Ok::<(), hubeltxa::Refusal>(())
     /// ```
     pub fn for_samples(samples: usize, bucket: u32) -> Result<Self, Refusal> {
@@ -129,27 +133,32 @@ impl SampleSet {
     /// [`new`](SampleSet::new).
     ///
     /// It is for a set that refused a sample by [`NoRow`](Refusal::NoRow) or [`NoOctants`](Refusal::NoOctants):
-    /// reserve, and add it again. 17 octants for each sample are always enough. A load keeps the lines before the one
-    /// that it refused, so go on with a sheet of the lines from [`line`](RefusedLoad::line) on.
+    /// reserve, and add it again. [`OCTANTS_PER_SAMPLE`](SampleSet::OCTANTS_PER_SAMPLE) octants for each sample are
+    /// always enough. A load keeps the lines before the one that it refused, so go on with a sheet of the lines from
+    /// [`line`](RefusedLoad::line) on.
     ///
     /// ```
-    /// use hubeltxa::{Refusal, SampleSet, HEADER_LENGTH, LINE_LENGTH};
+    /// use hubeltxa::numbers::{COUNT_COLUMNS, HEADER_LENGTH, LINE_LENGTH, TITLE};
+    /// use hubeltxa::{write_line, Refusal, SampleSet};
     ///
-    /// let sheet = b"SWATCHES     3\n\
-    ///               \x20        7     0     0     0 A001                            \n\
-    ///               \x20        8 65535 65535 65535 A002                            \n\
-    ///               \x20        9     0     0     0 A001                            \n";
-    /// let mut set = SampleSet::new(1, 17, 2)?;
-    /// if let Err(refused) = set.load(sheet) {
+    /// let sheet_of = |lines: &[u8]| {
+    ///     let header = format!("{TITLE}{:>COUNT_COLUMNS$}\n", lines.len() / LINE_LENGTH);
+    ///     [header.as_bytes(), lines].concat()
+    /// };
+    /// let mut lines = [[0; LINE_LENGTH]; 3];
+    /// for (line, (tag, grey)) in lines.iter_mut().zip([(7, 0), (8, 65_535), (9, 0)]) {
+    ///     write_line(tag, [grey; 3], b"A001", line)?;
+    /// }
+    /// let sheet = sheet_of(&lines.concat());
+    ///
+    /// let mut set = SampleSet::for_samples(1, 2)?;
+    /// if let Err(refused) = set.load(&sheet) {
     ///     assert_eq!((refused.refusal, refused.line()), (Refusal::NoRow, Some(1)));
     ///     let rest = &sheet[HEADER_LENGTH + LINE_LENGTH * refused.taken as usize..];
-    ///     let lines = rest.len() / LINE_LENGTH;
-    ///     let samples = set.len() + lines;
+    ///     let samples = set.len() + rest.len() / LINE_LENGTH;
     ///     set.reserve(samples, samples * SampleSet::OCTANTS_PER_SAMPLE);
-    ///     assert_eq!((set.capacity(), set.octant_capacity()), (3, 51));
-    ///
-    ///     let rest = [format!("SWATCHES{lines:>6}\n").as_bytes(), rest].concat();
-    ///     assert_eq!(set.load(&rest), Ok(2));
+    ///     assert_eq!((set.capacity(), set.octant_capacity()), (3, 3 * SampleSet::OCTANTS_PER_SAMPLE));
+    ///     assert_eq!(set.load(&sheet_of(rest)), Ok(2));
     /// }
     /// assert!(set.samples().map(|sample| sample.tag).eq([7, 8, 9]));
     /// # Ok::<(), Refusal>(())
@@ -171,7 +180,7 @@ impl SampleSet {
     /// # Ok::<(), hubeltxa::Refusal>(())
     /// ```
     pub fn len(&self) -> usize {
-        self.samples[0] as usize
+        numbers::sample_count(&self.samples)
     }
 
     /// Whether no sample is in the set.
@@ -191,7 +200,7 @@ impl SampleSet {
     /// # Ok::<(), hubeltxa::Refusal>(())
     /// ```
     pub fn bucket(&self) -> u32 {
-        self.samples[1]
+        numbers::bucket(&self.samples)
     }
 
     /// How many samples there is room for, with those that are in the set; [`reserve`](SampleSet::reserve) makes more.
@@ -201,7 +210,7 @@ impl SampleSet {
     /// # Ok::<(), hubeltxa::Refusal>(())
     /// ```
     pub fn capacity(&self) -> usize {
-        (self.samples.len() - lent::sample_words(0)) / (lent::sample_words(1) - lent::sample_words(0))
+        (self.samples.len() - numbers::SAMPLE_HEADER) / numbers::SAMPLE_ROW
     }
 
     /// How many octants the set's tree has; 0 where the set is empty.
@@ -215,7 +224,7 @@ impl SampleSet {
     /// # Ok::<(), hubeltxa::Refusal>(())
     /// ```
     pub fn octant_count(&self) -> usize {
-        self.octants[0] as usize
+        numbers::octant_count(&self.octants)
     }
 
     /// How many octants there is room for, with those of the set; [`reserve`](SampleSet::reserve) makes more.
@@ -225,27 +234,33 @@ impl SampleSet {
     /// # Ok::<(), hubeltxa::Refusal>(())
     /// ```
     pub fn octant_capacity(&self) -> usize {
-        (self.octants.len() - lent::octant_words(0)) / (lent::octant_words(1) - lent::octant_words(0))
+        (self.octants.len() - numbers::OCTANT_HEADER) / numbers::OCTANT_ROW
     }
 
-    /// The words of the sample table; the [crate's page](crate#tables) says what they are.
+    /// The words of the sample table; [`numbers`](crate::numbers#tables) says what they are.
     ///
     /// ```
-    /// let mut set = hubeltxa::SampleSet::new(2, 1, 16)?;
+    /// use hubeltxa::{lent, SampleSet};
+    ///
+    /// let mut set = SampleSet::new(2, 1, 16)?;
     /// set.add(7, [1, 2, 3])?;
-    /// assert_eq!(set.sample_words(), [1, 16, 7, 1, 2, 3, 1, 0, 0, 0, 0, 0]);
+    /// assert_eq!(set.sample_words().len(), lent::sample_words(2));
+    /// assert!(lent::check(set.sample_words(), set.octant_words()));
     /// # Ok::<(), hubeltxa::Refusal>(())
     /// ```
     pub fn sample_words(&self) -> &[u32] {
         &self.samples
     }
 
-    /// The words of the octant table; the [crate's page](crate#tables) says what they are.
+    /// The words of the octant table; [`numbers`](crate::numbers#tables) says what they are.
     ///
     /// ```
-    /// let mut set = hubeltxa::SampleSet::new(2, 1, 16)?;
+    /// use hubeltxa::{lent, SampleSet};
+    ///
+    /// let mut set = SampleSet::new(2, 1, 16)?;
     /// set.add(7, [1, 2, 3])?;
-    /// assert_eq!(set.octant_words(), [1, 0, 0, 1, 0, 0, 0, 0, 0, 0, 0, 0]);
+    /// assert_eq!(set.octant_words().len(), lent::octant_words(1));
+    /// assert!(lent::check(set.sample_words(), set.octant_words()));
     /// # Ok::<(), hubeltxa::Refusal>(())
     /// ```
     pub fn octant_words(&self) -> &[u32] {
@@ -275,28 +290,28 @@ impl SampleSet {
     /// # Ok::<(), hubeltxa::Refusal>(())
     /// ```
     pub fn in_order(&self) -> impl Iterator<Item = Sample> + '_ {
-        // The root's first row; then each row's last word is the row that follows.
-        let first = self.octants.get(lent::octant_words(0)).copied();
-        let rows = std::iter::successors(first, |&row| Some(self.samples[lent::sample_words(row as usize + 1) - 1]));
-        rows.take(self.len()).map(|row| self.sample(row as usize))
+        // From the root's first row, each row says which follows. An empty set has no root.
+        let first = (!self.is_empty()).then(|| numbers::octant_first(&self.octants, 0));
+        let rows = std::iter::successors(first, |&row| Some(numbers::sample_next(&self.samples, row)));
+        rows.take(self.len()).map(|row| self.sample(row))
     }
 
     /// The sample in a row.
     fn sample(&self, row: usize) -> Sample {
-        let words = &self.samples[lent::sample_words(row)..];
-        Sample { tag: words[0], codes: [words[1], words[2], words[3]] }
+        Sample { tag: numbers::sample_tag(&self.samples, row), codes: numbers::sample_codes(&self.samples, row) }
     }
 
     /// Empties the set, and gives it this bucket size.
     ///
     /// # Errors
-    /// [`Refusal::Bucket`] (3) where the bucket size is not from 1 to 256; the set is as it was then.
+    /// [`Refusal::Bucket`] (3) if the bucket size is not from 1 to [`MOST_BUCKET`](numbers::MOST_BUCKET); the set is as
+    /// it was then.
     ///
     /// ```
     /// let mut set = hubeltxa::SampleSet::for_samples(100, 16)?;
     /// set.add(7, [1, 2, 3])?;
-    /// set.clear(256)?;
-    /// assert_eq!((set.len(), set.bucket()), (0, 256));
+    /// set.clear(2)?;
+    /// assert_eq!((set.len(), set.bucket()), (0, 2));
     /// # Ok::<(), hubeltxa::Refusal>(())
     /// ```
     pub fn clear(&mut self, bucket: u32) -> Result<(), Refusal> {
@@ -307,17 +322,17 @@ impl SampleSet {
     ///
     /// # Errors
     /// The first of these that is so; the set is as it was then:
-    /// - [`Refusal::Code`] (4) where a code is over 65,535;
+    /// - [`Refusal::Code`] (4) if a code is over [`MOST_CODE`](numbers::MOST_CODE);
     /// - [`Refusal::KnownTag`] (5) where a sample of the set has the tag;
     /// - [`Refusal::NoRow`] (6) where there is no room for another sample;
     /// - [`Refusal::NoOctants`] (7) where there is not for its octants.
     ///
     /// ```
-    /// use hubeltxa::{Refusal, SampleSet};
+    /// use hubeltxa::{numbers::MOST_CODE, Refusal, SampleSet};
     ///
     /// let mut set = SampleSet::for_samples(2, 16)?;
     /// set.add(7, [1, 2, 3])?;
-    /// assert_eq!(set.add(8, [1, 2, 65_536]), Err(Refusal::Code));
+    /// assert_eq!(set.add(8, [1, 2, MOST_CODE + 1]), Err(Refusal::Code));
     /// assert_eq!(set.add(7, [4, 5, 6]), Err(Refusal::KnownTag));
     /// set.add(8, [4, 5, 6])?;
     /// assert_eq!(set.add(9, [4, 5, 6]), Err(Refusal::NoRow));
@@ -360,17 +375,20 @@ impl SampleSet {
     /// - [`Refusal::NoOctants`] (7) where there is not for its octants.
     ///
     /// ```
-    /// use hubeltxa::{Refusal, RefusedLoad, SampleSet};
+    /// use hubeltxa::numbers::{COUNT_COLUMNS, LINE_LENGTH, TITLE};
+    /// use hubeltxa::{write_line, Refusal, RefusedLoad, SampleSet};
     ///
-    /// let sheet = b"SWATCHES     2\n\
-    ///               \x20        7     0     0     0 A001                            \n\
-    ///               \x20        8 65535 65535 65535 A002                            \n";
+    /// let mut lines = [[0; LINE_LENGTH]; 2];
+    /// write_line(7, [0; 3], b"A001", &mut lines[0])?;
+    /// write_line(8, [65_535; 3], b"A002", &mut lines[1])?;
+    /// let sheet = [format!("{TITLE}{:>COUNT_COLUMNS$}\n", 2).as_bytes(), &lines.concat()].concat();
+    ///
     /// let mut set = SampleSet::for_samples(100, 16)?;
-    /// assert_eq!(set.load(sheet), Ok(2));
+    /// assert_eq!(set.load(&sheet), Ok(2));
     ///
     /// set.remove(7)?;
     /// let refused = RefusedLoad { refusal: Refusal::KnownTag, taken: 1 }; // 7 is taken again, and 8 is in the set
-    /// assert_eq!(set.load(sheet), Err(refused));
+    /// assert_eq!(set.load(&sheet), Err(refused));
     /// # Ok::<(), Refusal>(())
     /// ```
     pub fn load(&mut self, sheet: &[u8]) -> Result<u32, RefusedLoad> {
@@ -383,8 +401,7 @@ impl SampleSet {
     /// r²: d² is the sum of the three squared differences between its codes and the centre's, r the radius as a code.
     ///
     /// # Errors
-    /// [`Refusal::OutOfRange`] (9) where a channel of the centre is not in `0 <= v < 1`, or the radius not in
-    /// `0 <= v < 2`.
+    /// [`Refusal::OutOfRange`] (9) if a channel of the centre or the radius is out of range.
     ///
     /// ```
     /// use hubeltxa::{Listed, Refusal, SampleSet};
@@ -399,7 +416,7 @@ impl SampleSet {
     /// assert_eq!(black, Listed { tags: &[7, 9], entered: 2, measured: 2 });
     /// let all = set.ball([0.0; 3], 1.999, &mut listing)?;
     /// assert_eq!(all, Listed { tags: &[7, 9, 8], entered: 1, measured: 0 });
-    /// assert_eq!(set.ball([0.0; 3], 2.0, &mut listing), Err(Refusal::OutOfRange));
+    /// assert_eq!(set.ball([0.0; 3], 2.5, &mut listing), Err(Refusal::OutOfRange));
     /// # Ok::<(), Refusal>(())
     /// ```
     pub fn ball<'a>(&self, centre: [f32; 3], radius: f32, listing: &'a mut Vec<u32>) -> Result<Listed<'a>, Refusal> {
@@ -412,8 +429,8 @@ impl SampleSet {
     /// where low <= code <= high in all three channels.
     ///
     /// # Errors
-    /// [`Refusal::OutOfRange`] (9) where a channel of either colour is not in `0 <= v < 1`, or low is above high in
-    /// one, as codes.
+    /// [`Refusal::OutOfRange`] (9) if a channel of either colour is out of range, or low is above high in one, as
+    /// codes.
     ///
     /// ```
     /// use hubeltxa::{Refusal, SampleSet};
@@ -438,21 +455,20 @@ impl SampleSet {
     /// several have it.
     ///
     /// # Errors
-    /// [`Refusal::OutOfRange`] (9) where a channel of the centre is not in `0 <= v < 1`, or the radius not in
-    /// `0 <= v < 2`.
+    /// [`Refusal::OutOfRange`] (9) if a channel of the centre or the radius is out of range.
     ///
     /// ```
-    /// use hubeltxa::{Nearest, Refusal, SampleSet};
+    /// use hubeltxa::{numbers::SCALE, Nearest, Refusal, SampleSet};
     ///
     /// let mut set = SampleSet::for_samples(100, 2)?;
     /// for (tag, grey) in [(7, 0), (8, 65_535), (9, 0)] {
     ///     set.add(tag, [grey; 3])?;
     /// }
     ///
-    /// let dark = [3.0 / 65_536.0; 3]; // code 3 in each channel
+    /// let dark = [3.0 / SCALE; 3]; // code 3 in each channel
     /// assert_eq!(set.nearest(dark, 0.001)?, Some(Nearest { tag: 7, distance: 27 })); // 9 is as near, and after it
     /// assert_eq!(set.nearest([0.5; 3], 0.001)?, None);
-    /// assert_eq!(set.nearest([0.5; 3], 2.0), Err(Refusal::OutOfRange));
+    /// assert_eq!(set.nearest([0.5; 3], 2.5), Err(Refusal::OutOfRange));
     /// # Ok::<(), Refusal>(())
     /// ```
     pub fn nearest(&self, centre: [f32; 3], radius: f32) -> Result<Option<Nearest>, Refusal> {
