@@ -178,8 +178,9 @@ fn pixel(x: usize, y: usize, state: &mut u64) -> [u16; 3] {
 }
 
 fn picture(arguments: &[&str]) -> Result<(), String> {
-    let [out] = arguments else {
-        return Err("give OUT.ppm".to_string());
+    let out = match arguments {
+        [out] => out,
+        _ => return Err("give OUT.ppm".to_string()),
     };
     let mut state = 1;
     let places = (0..HEIGHT).flat_map(|y| (0..WIDTH).map(move |x| (x, y)));

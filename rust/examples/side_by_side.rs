@@ -22,8 +22,9 @@ fn rows(picture: &Picture) -> Vec<Vec<u8>> {
 }
 
 fn side_by_side(arguments: &[&str]) -> Result<(), String> {
-    let [left, right, out] = arguments else {
-        return Err("give LEFT.ppm RIGHT.pgm OUT.png".to_string());
+    let (left, right, out) = match arguments {
+        [left, right, out] => (left, right, out),
+        _ => return Err("give LEFT.ppm RIGHT.pgm OUT.png".to_string()),
     };
     let pictures = (read_picture(left, 3)?, read_picture(right, 1)?);
     if pictures.0.height != pictures.1.height {

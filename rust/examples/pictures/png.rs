@@ -89,7 +89,7 @@ fn run_of(length: usize) -> Symbol {
     if past < 8 {
         return (257 + past, 0, 0);
     }
-    let extra = past.ilog2() - 2;
+    let extra = usize::BITS - past.leading_zeros() - 3;
     (257 + 4 * extra as usize + (past >> extra), extra, (past & ((1 << extra) - 1)) as u32)
 }
 
@@ -107,7 +107,7 @@ fn symbols(bytes: &[u8]) -> Vec<Symbol> {
             all.push(run_of(length));
             run -= length;
         }
-        all.extend(std::iter::repeat_n((byte as usize, 0, 0), run));
+        all.extend(std::iter::repeat((byte as usize, 0, 0)).take(run));
     }
     all.push((END, 0, 0));
     all
@@ -145,7 +145,7 @@ fn code_lengths(symbols: &[Symbol]) -> Vec<u32> {
         if lengths.iter().all(|&length| length <= LONGEST) {
             return lengths;
         }
-        counts = counts.map(|count| count.div_ceil(2));
+        counts = counts.map(|count| count - count / 2);
     }
 }
 
