@@ -11,12 +11,19 @@
 //!
 //! A sheet is a header of [`HEADER_LENGTH`] bytes, then lines of [`LINE_LENGTH`] bytes. The header is the [`TITLE`],
 //! the number of lines in [`COUNT_COLUMNS`] and a newline. A line is the tag in [`TAG_COLUMNS`], red, green and blue in
-//! [`CODE_COLUMNS`] each, a blank, the reel name at the left of [`NAME_COLUMNS`] with blanks after it, and a newline:
+//! [`CODE_COLUMNS`] each, a blank, the reel name at the left of [`NAME_COLUMNS`] with blanks after it, and a newline.
 //!
-//! ```text
-//! SWATCHES     2
-//!          7     0     0     0 A001
-//! 4294967295 65535 65535 65535 A002
+//! ```
+//! use hubeltxa::numbers::{COUNT_COLUMNS, LINE_LENGTH, TITLE};
+//!
+//! let mut lines = [[0; LINE_LENGTH]; 2];
+//! hubeltxa::write_line(7, [0, 32_768, 65_535], b"A001", &mut lines[0])?;
+//! hubeltxa::write_line(u32::MAX, [65_535; 3], b"A002", &mut lines[1])?;
+//!
+//! assert_eq!(format!("{TITLE}{:>COUNT_COLUMNS$}\n", lines.len()), "SWATCHES     2\n");
+//! assert_eq!(&lines[0], b"         7     0 32768 65535 A001                            \n");
+//! assert_eq!(&lines[1], b"4294967295 65535 65535 65535 A002                            \n");
+//! # Ok::<(), hubeltxa::Refusal>(())
 //! ```
 //!
 //! A number is decimal, at the right of its columns, with blanks before it and no leading zero but in 0 itself. A name

@@ -17,7 +17,7 @@ use std::fmt::{self, Debug, Formatter};
 /// ```
 #[derive(Clone, Copy, Debug, PartialEq, Eq, Hash)]
 pub struct Sample {
-    /// Any 32-bit number; no two samples of a set have the same.
+    /// Any number; no two samples of a set have the same.
     pub tag: u32,
     /// Red, green and blue, each from 0 to [`MOST_CODE`](numbers::MOST_CODE).
     pub codes: [u32; 3],
