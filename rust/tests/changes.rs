@@ -1,8 +1,8 @@
 //! Sets changed by add, remove and load, compared with the straight scan call by call.
 //!
-//! `cargo test --release` takes some seconds. The ignored tests go through more calls, and load whole sheets of
-//! 4,096 lines: `make test-long`, or `cargo test --release --test changes -- --ignored`. Each test prints how many
-//! calls it compared, by call and number, which `--show-output` shows.
+//! `cargo test --release` takes some seconds. The ignored tests go through more calls, and load sheets of as many lines
+//! as there can be samples: `make test-long`, or `cargo test --release --test changes -- --ignored`. Each test prints
+//! how many calls it compared, by call and number, which `--show-output` shows.
 
 #[path = "../../oracle/straight_scan.rs"]
 #[allow(dead_code)]
@@ -14,14 +14,16 @@ mod compared;
 mod damage;
 mod lent;
 mod lines;
+mod numbers;
 mod random;
 mod sets;
 
 use calls::*;
 use compared::{Compared, Tables, CHANGES};
 use damage::Both;
-use hubeltxa::{lent as wrapper, Refusal, HEADER_LENGTH as HEADER, LINE_LENGTH as LINE};
+use hubeltxa::{lent as wrapper, Refusal};
 use lines::*;
+use numbers::*;
 use random::*;
 use sets::*;
 use straight_scan::{Bin, Call, Codes, Sample};
@@ -30,9 +32,9 @@ use straight_scan::{Bin, Call, Codes, Sample};
 fn cut(tables: &Tables, state: &mut u64) -> Tables {
     let (samples, octants) = (&tables.samples, &tables.octants);
     match below(3, state) {
-        0 => Tables::of_words(&samples[..below(2, state)], octants),
+        0 => Tables::of_words(&samples[..below(SAMPLE_HEADER, state)], octants),
         1 => Tables::of_words(samples, &[]),
-        _ => Tables::of_words(&samples[..below(2, state)], &[]),
+        _ => Tables::of_words(&samples[..below(SAMPLE_HEADER, state)], &[]),
     }
 }
 
@@ -84,8 +86,8 @@ fn call_sequences() {
 fn large_sequences(compared: &mut Compared, runs: usize, calls: usize, mut state: u64) {
     let state = &mut state;
     for _ in 0..runs {
-        let colours = pool(MOST, state);
-        let tables = any_set(MOST - below(20, state), &colours, 20, 5, state);
+        let colours = pool(MOST_SAMPLES, state);
+        let tables = any_set(MOST_SAMPLES - below(20, state), &colours, 20, 5, state);
         sequence(compared, tables, &colours, calls, 5, state);
     }
 }
@@ -95,6 +97,11 @@ fn call_sequences_on_large_sets() {
     let mut compared = Compared::default();
     large_sequences(&mut compared, 16, 30, 2);
     compared.print("call sequences on large sets");
+}
+
+/// Tables of no sample with so many rows.
+fn empty(rows: usize, octants: usize, bucket: u32) -> Tables {
+    Tables::of(straight_scan::start(sample_words(rows), octant_words(octants), bucket).unwrap())
 }
 
 // Adds and removes.
@@ -139,21 +146,22 @@ fn added_and_removed() {
 #[test]
 fn questions_in_order() {
     let mut compared = Compared::default();
-    let samples = tagged([[0; 3], [65_535; 3], [0; 3]]);
+    let samples = tagged([[0; 3], [MOST_CODE; 3], [0; 3]]);
     // Bucket size 1: the first two fill both tables just so, and the third needs 15 octants more.
     let full = exact(&samples[..2], 1);
     for (rows, octants) in (0..2).flat_map(|rows| (0..2).map(move |octants| (rows, octants))) {
-        let tables = Tables::of(longer(&full, 5 * rows, 11 * 15 * octants));
-        for code in [0, 65_536] {
+        let tables = Tables::of(longer(&full, SAMPLE_ROW * rows, OCTANT_ROW * 15 * octants));
+        for code in [0, MOST_CODE + 1] {
             for tag in [samples[0].tag, samples[2].tag] {
-                let asked = [(code > 65_535, 4), (tag == 0, 5), (rows == 0, 6), (octants == 0, 7)];
+                let asked = [(code > MOST_CODE, 4), (tag == 0, 5), (rows == 0, 6), (octants == 0, 7)];
                 let first = asked.into_iter().find_map(|(no, number)| no.then_some(number));
                 let call = Call::Add(tag, [0, 0, code]);
                 assert_eq!(compared.ask(&tables, &call), (first.unwrap_or(0), 0));
                 let mut unsound = tables.samples.clone();
-                unsound[1] = 0;
+                unsound[BUCKET_SIZE] = 0;
+                let short = &unsound[..SAMPLE_HEADER - 1];
                 assert_eq!(compared.ask(&Tables::of_words(&unsound, &tables.octants), &call), (2, 0));
-                assert_eq!(compared.ask(&Tables::of_words(&unsound[..1], &tables.octants), &call), (1, 0));
+                assert_eq!(compared.ask(&Tables::of_words(short, &tables.octants), &call), (1, 0));
             }
         }
     }
@@ -164,12 +172,13 @@ fn questions_in_order() {
 #[test]
 fn codes() {
     let mut compared = Compared::default();
-    let tables = Tables::of(longer(&exact(&tagged(scattered(20, 3)), 2), 5, 11 * 40));
-    for code in [0, 1, 32_767, 32_768, 65_534, 65_535, 65_536, 65_537, 1 << 17, 1 << 31, u32::MAX] {
+    let tables = Tables::of(longer(&exact(&tagged(scattered(20, 3)), 2), SAMPLE_ROW, OCTANT_ROW * 40));
+    let ends = [MOST_CODE - 1, MOST_CODE, MOST_CODE + 1, MOST_CODE + 2, 1 << 17, 1 << 31, u32::MAX];
+    for code in [0, 1, 32_767, 32_768].into_iter().chain(ends) {
         for channel in 0..3 {
             let mut codes = [9; 3];
             codes[channel] = code;
-            let number = if code > 65_535 { 4 } else { 0 };
+            let number = if code > MOST_CODE { 4 } else { 0 };
             assert_eq!(compared.ask(&tables, &Call::Add(3, codes)), (number, 0));
         }
     }
@@ -180,17 +189,19 @@ fn codes() {
 #[test]
 fn cases() {
     let mut compared = Compared::default();
-    let three = [Call::Add(7, [0; 3]), Call::Add(8, [65_535; 3]), Call::Add(9, [0; 3])];
-    let mut tables = Tables::of(straight_scan::start(2 + 5 * 3, 1 + 11 * 3, 2).unwrap());
+    let three = [Call::Add(7, [0; 3]), Call::Add(8, [MOST_CODE; 3]), Call::Add(9, [0; 3])];
+    let mut tables = empty(3, 3, 2);
     three.iter().for_each(|call| assert_eq!(compared.call(&mut tables, call), (0, 0)));
-    assert_eq!([6, 11, 16].map(|at| tables.samples[at]), [2, 3, 1]);
-    assert_eq!(tables.octants[..12], [3, 0, 1, 3, 1, 0, 0, 0, 0, 0, 0, 2]);
+    assert_eq!([0, 1, 2].map(|row| next_of(&tables.samples, row)), [2, 3, 1]);
+    assert_eq!(octant_count(&tables.octants), 3);
+    assert_eq!(tables.octants[OCTANT_HEADER..octant_words(1)], octant_row(0, 1, 3, [1, 0, 0, 0, 0, 0, 0, 2]));
     for call in [Call::Remove(7), Call::Add(7, [0; 3])] {
         assert_eq!(compared.call(&mut tables, &call), (0, 0));
     }
-    assert_eq!([2, 7, 12].map(|at| tables.samples[at]), [8, 9, 7]);
-    for (words, number) in [(199, 0), (198, 7)] {
-        let mut tables = Tables::of(straight_scan::start(2 + 5 * 3, words, 1).unwrap());
+    assert_eq!([0, 1, 2].map(|row| tag_of(&tables.samples, row)), [8, 9, 7].map(Some));
+    // Case h needs 18 octants.
+    for (words, number) in [(octant_words(18), 0), (octant_words(18) - 1, 7)] {
+        let mut tables = Tables::of(straight_scan::start(sample_words(3), words, 1).unwrap());
         assert_eq!(three.iter().map(|call| compared.call(&mut tables, call).0).max(), Some(number));
     }
     compared.print("cases");
@@ -209,7 +220,7 @@ fn lists() -> Vec<Vec<Sample>> {
     vec![
         tagged(scattered(16, 11)),
         tagged(clustered(20, 2, 9, 12)),
-        tagged([[300, 65_535, 0]; 12]),
+        tagged([[300, MOST_CODE, 0]; 12]),
         tagged(planes),
         tagged(close_pairs(14, 13)),
     ]
@@ -281,9 +292,10 @@ fn rows_run_out() {
 fn ties_of_every_kind() {
     let mut compared = Compared::default();
     const LINES: usize = 5;
-    for all in [tagged([[0; 3], [65_535; 3]].into_iter().chain(close_pairs(6, 14))), tagged(scattered(8, 15))] {
+    for all in [tagged([[0; 3], [MOST_CODE; 3]].into_iter().chain(close_pairs(6, 14))), tagged(scattered(8, 15))] {
         for (n, bucket) in [0, 1, 3].into_iter().flat_map(|n| [1, 2, 4].map(|bucket| (n, bucket))) {
             let (there, new) = (&all[..n], &all[n..n + LINES]);
+            let filled = Tables::of(exact(there, bucket));
             let mut ends: Vec<usize> = (n..=n + LINES).map(|k| exact(&all[..k], bucket).octants()).collect();
             ends.dedup();
             for k in 0..(LINES + 1).pow(3) {
@@ -302,9 +314,7 @@ fn ties_of_every_kind() {
                 let sheet = good_sheet(&lines);
                 for rows in n..=n + LINES {
                     for &octants in &ends {
-                        let words =
-                            Bin { sample_words: 2 + 5 * rows, octant_words: 1 + 11 * octants, ..exact(there, bucket) };
-                        compared.load(&Tables::of(words), sheet.clone());
+                        compared.load(&filled.with_rows(rows, octants), sheet.clone());
                     }
                 }
             }
@@ -318,11 +328,11 @@ fn ties_of_every_kind() {
 fn ties() {
     let mut compared = Compared::default();
     // With bucket size 1 the first two fill 3 octant rows; the third needs 15 more, the fourth no more than that.
-    let all = tagged([[0; 3], [65_535; 3], [0; 3], [0; 3]]);
+    let all = tagged([[0; 3], [MOST_CODE; 3], [0; 3], [0; 3]]);
     let tables = |n: usize, rows: usize, octants: usize| Tables::of(exact(&all[..n], 1)).with_rows(rows, octants);
     let bad = |at: usize, samples: &[Sample]| {
         let mut sheet = sheet(samples);
-        sheet[HEADER + LINE * at] = b'x';
+        sheet[sheet_length(at)] = b'x';
         sheet
     };
     // A line that is not good, on full rows; and one with a known tag.
@@ -346,24 +356,17 @@ fn ties() {
     assert_eq!(compared.load(&tables(0, 4, 18), sheet(&all)), (0, 4));
     // The tables before the header, and a header that is not good before its lines.
     let mut unsound = tables(2, 2, 3);
-    unsound.octants[0] = 4;
+    unsound.octants[OCTANT_COUNT] = 4;
+    let short = &unsound.samples[..SAMPLE_HEADER - 1];
     assert_eq!(compared.load(&Tables::of_words(&unsound.samples, &unsound.octants), vec![]), (2, 0));
-    assert_eq!(compared.load(&Tables::of_words(&unsound.samples[..1], &unsound.octants), vec![]), (1, 0));
+    assert_eq!(compared.load(&Tables::of_words(short, &unsound.octants), vec![]), (1, 0));
     assert_eq!(compared.load(&tables(2, 2, 3), bad(0, &all)[1..].to_vec()), (11, 0));
     compared.print("ties");
 }
 
 /// Tables to load two or three lines into: empty ones with rows and octant rows enough, and with one row.
 fn few_rows() -> [Tables; 2] {
-    [3, 1].map(|rows| Tables::of(straight_scan::start(2 + 5 * rows, 1 + 11 * 60, 1).unwrap()))
-}
-
-fn three_lines() -> Vec<Vec<u8>> {
-    vec![
-        line_of("7", ["0", "10", "65535"], "A001"),
-        line_of("4294967295", ["65535", "999", "1000"], LONG_NAME),
-        line_of("0", ["9", "65535", "0"], "~"),
-    ]
+    [3, 1].map(|rows| empty(rows, 60, 1))
 }
 
 /// Every byte of a sheet changed to every other.
@@ -402,7 +405,7 @@ fn headers() {
         for byte in 0..=255 {
             assert_eq!(compared.load(&tables, [&whole[..], &[byte]].concat()), (11, 0));
         }
-        assert_eq!(compared.load(&tables, b"SWATCHES     0\n".to_vec()), (0, 0));
+        assert_eq!(compared.load(&tables, sheet_of(0, &[])), (0, 0));
         assert_eq!(compared.load(&tables, vec![]), (11, 0));
     }
     // Sheets with no lines change nothing, also where no row is left.
@@ -417,7 +420,7 @@ fn headers() {
 fn sheets_longer_than_tables() {
     let mut compared = Compared::default();
     for count in [999, 9_999, 99_999, 999_999] {
-        let lines: Vec<Vec<u8>> = (0..count).map(|k| line_of(k, [k % 65_536, 0, 0], "A001")).collect();
+        let lines: Vec<Vec<u8>> = (0..count).map(|k| line_of(k, [k % CODE_COUNT, 0, 0], "A001")).collect();
         for tables in few_rows() {
             let rows = tables.set.as_ref().unwrap().sample_rows();
             assert_eq!(compared.load(&tables, good_sheet(&lines)), (6, rows as u32));
@@ -430,12 +433,12 @@ fn sheets_longer_than_tables() {
 
 /// Calls of each kind, with arguments that would be taken and ones that would not.
 fn each_call(samples: &[u32], state: &mut u64) -> [Call; 3] {
-    let tag = |state: &mut u64| match samples.get(2) {
-        Some(&tag) if below(2, state) == 0 => tag,
-        _ => random(state) as u32,
+    let tag = |state: &mut u64| match tag_of(samples, 0) {
+        Some(tag) if below(2, state) == 0 => tag,
+        _ => random(state) as Tag,
     };
-    let code = any_of(&[0, 65_535, 65_536], state);
-    let sheets = [good_sheet(&[]), good_sheet(&[line_of(tag(state), [1, 2, 3], "A001")]), b"SWATCHES".to_vec()];
+    let code = any_of(&[0, MOST_CODE, MOST_CODE + 1], state);
+    let sheets = [good_sheet(&[]), good_sheet(&[line_of(tag(state), [1, 2, 3], "A001")]), TITLE.into()];
     let sheet = sheets[below(3, state)].clone();
     [Call::Add(tag(state), [1, 2, code]), Call::Remove(tag(state)), Call::Load(sheet)]
 }
@@ -489,74 +492,72 @@ fn edited_tables() {
 fn short_tables() {
     let mut compared = Compared::default();
     let mut state = 29;
-    for (n, m) in (0..4).flat_map(|n| (0..14).map(move |m| (n, m))) {
+    for (n, m) in (0..SAMPLE_HEADER + 2).flat_map(|n| (0..octant_words(1) + 2).map(move |m| (n, m))) {
         for round in 0..20 {
             let word = |state: &mut u64| if round == 0 { 0 } else { below(3, state) as u32 };
-            let samples: Vec<u32> = (0..n).map(|at| if at == 1 { 16 } else { word(&mut state) }).collect();
+            let samples: Vec<u32> = (0..n).map(|at| if at == BUCKET_SIZE { 16 } else { word(&mut state) }).collect();
             let octants: Vec<u32> = (0..m).map(|_| word(&mut state)).collect();
             let tables = Tables::of_words(&samples, &octants);
             for call in each_call(&samples, &mut state) {
                 let number = compared.ask(&tables, &call).0;
-                assert_eq!(number == 1, n < 2 || m < 1);
+                assert_eq!(number == 1, too_short(n, m));
             }
         }
     }
     compared.print("short tables");
 }
 
-// 4,096 rows.
+// As many rows as there can be.
 
-/// Tables with more words than 4,096 rows have: exactly those rows are used. Bucket size 256, where the straight
-/// scan is quick.
+/// Tables with more words than the most rows have: exactly those rows are used. The bucket size is the greatest, so that
+/// the straight scan is quick.
 #[test]
 fn most_rows() {
     let mut compared = Compared::default();
-    let samples = tagged(scattered(MOST + 3, 31));
-    for words in [0, 1, 4, 5, 5 + 3, 5 * 100] {
-        let bin = |n: usize| longer(&exact(&samples[..n], 256), 5 * (MOST - n) + words, 11 * 50);
-        let mut tables = Tables::of(bin(MOST - 1));
+    let samples = tagged(scattered(MOST_SAMPLES + 3, 31));
+    for words in [0, 1, SAMPLE_ROW - 1, SAMPLE_ROW, SAMPLE_ROW + 3, SAMPLE_ROW * 100] {
+        let more = |n: usize| SAMPLE_ROW * (MOST_SAMPLES - n) + words;
+        let bin = |n: usize| longer(&exact(&samples[..n], MOST_BUCKET), more(n), OCTANT_ROW * 50);
+        let mut tables = Tables::of(bin(MOST_SAMPLES - 1));
         let add = |i: usize| Call::Add(samples[i].tag, samples[i].codes);
-        assert_eq!(compared.load(&tables, sheet(&samples[MOST - 1..])), (6, 1));
-        assert_eq!(compared.call(&mut tables, &add(MOST - 1)), (0, 0));
-        assert_eq!(compared.call(&mut tables, &add(MOST)), (6, 0));
+        assert_eq!(compared.load(&tables, sheet(&samples[MOST_SAMPLES - 1..])), (6, 1));
+        assert_eq!(compared.call(&mut tables, &add(MOST_SAMPLES - 1)), (0, 0));
+        assert_eq!(compared.call(&mut tables, &add(MOST_SAMPLES)), (6, 0));
         assert_eq!(compared.call(&mut tables, &add(7)), (5, 0));
-        assert_eq!(compared.load(&tables, sheet(&samples[MOST..])), (6, 0));
+        assert_eq!(compared.load(&tables, sheet(&samples[MOST_SAMPLES..])), (6, 0));
         assert_eq!(compared.load(&tables, sheet(&samples[9..10])), (5, 0));
-        for row in [0, MOST / 2, MOST - 1] {
+        for row in [0, MOST_SAMPLES / 2, MOST_SAMPLES - 1] {
             let tag = tables.set.as_ref().unwrap().samples[row].tag;
             assert_eq!(compared.call(&mut tables, &Call::Remove(tag)), (0, 0));
             assert_eq!(compared.call(&mut tables, &Call::Add(tag, [row as u32; 3])), (0, 0));
-            assert_eq!(compared.call(&mut tables, &add(MOST)), (6, 0));
+            assert_eq!(compared.call(&mut tables, &add(MOST_SAMPLES)), (6, 0));
         }
     }
     compared.print("most rows");
 }
 
-/// Whole sheets, up to more lines than there can be rows, into empty tables. Bucket size 256, where the straight scan
-/// is quick, which builds a tree for each line.
+/// Whole sheets, up to more lines than there can be rows, into empty tables. The bucket size is the greatest, so that
+/// the straight scan, which builds a tree for each line, is quick.
 #[test]
 fn whole_sheets() {
     let mut compared = Compared::default();
-    let samples = tagged(scattered(MOST + 3, 32));
-    let empty =
-        |rows: usize, octants: usize| Tables::of(straight_scan::start(2 + 5 * rows, 1 + 11 * octants, 256).unwrap());
-    assert_eq!(compared.load(&empty(MOST, 100), sheet(&samples[..MOST])), (0, MOST as u32));
-    assert_eq!(compared.load(&empty(MOST + 9, 100), sheet(&samples)), (6, MOST as u32));
+    let samples = tagged(scattered(MOST_SAMPLES + 3, 32));
+    let empty = |rows: usize, octants: usize| empty(rows, octants, MOST_BUCKET);
+    assert_eq!(compared.load(&empty(MOST_SAMPLES, 100), sheet(&samples[..MOST_SAMPLES])), (0, MOST_SAMPLES as u32));
+    assert_eq!(compared.load(&empty(MOST_SAMPLES + 9, 100), sheet(&samples)), (6, MOST_SAMPLES as u32));
     let mut twice = samples.clone();
-    twice[MOST].tag = twice[MOST - 1].tag;
-    assert_eq!(compared.load(&empty(MOST + 9, 100), sheet(&twice)), (5, MOST as u32));
-    for again in [1, MOST / 2 + 1, MOST - 1] {
-        let mut twice = samples[..MOST].to_vec();
+    twice[MOST_SAMPLES].tag = twice[MOST_SAMPLES - 1].tag;
+    assert_eq!(compared.load(&empty(MOST_SAMPLES + 9, 100), sheet(&twice)), (5, MOST_SAMPLES as u32));
+    for again in [1, MOST_SAMPLES / 2 + 1, MOST_SAMPLES - 1] {
+        let mut twice = samples[..MOST_SAMPLES].to_vec();
         twice[again].tag = twice[again / 3].tag;
-        assert_eq!(compared.load(&empty(MOST, 100), sheet(&twice)), (5, again as u32));
+        assert_eq!(compared.load(&empty(MOST_SAMPLES, 100), sheet(&twice)), (5, again as u32));
     }
     for octants in [1, 2, 30, 60] {
-        assert_eq!(compared.load(&empty(MOST, octants), sheet(&samples[..MOST])).0, 7);
+        assert_eq!(compared.load(&empty(MOST_SAMPLES, octants), sheet(&samples[..MOST_SAMPLES])).0, 7);
     }
-    // Tags that are the same but for their highest digits.
-    let high = |i: usize| Sample { tag: (i as u32) << 20, ..samples[i] };
-    let high: Vec<Sample> = (0..MOST).map(high).collect();
-    assert_eq!(compared.load(&empty(MOST, 100), sheet(&high)), (0, MOST as u32));
+    let high: Vec<Sample> = (0..MOST_SAMPLES).map(|i| Sample { tag: high_tag(i), ..samples[i] }).collect();
+    assert_eq!(compared.load(&empty(MOST_SAMPLES, 100), sheet(&high)), (0, MOST_SAMPLES as u32));
     compared.print("whole sheets");
 }
 
@@ -565,11 +566,11 @@ fn whole_sheets() {
 #[test]
 fn within_the_stack() {
     const STACK: usize = 80_000;
-    let colours = close_pairs(MOST, 36).into_iter().take(MOST).enumerate();
-    let samples: Vec<Sample> = colours.map(|(i, codes)| Sample { tag: (i as u32) << 20, codes }).collect();
+    let colours = close_pairs(MOST_SAMPLES, 36).into_iter().take(MOST_SAMPLES).enumerate();
+    let samples: Vec<Sample> = colours.map(|(i, codes)| Sample { tag: high_tag(i), codes }).collect();
     let (last, first, known) = (samples.len() - 1, samples[0].tag, samples[1].tag);
     let (most, again) = (sheet(&samples[..last]), sheet(&samples[last..]));
-    let (mut s, mut o) = (vec![0; 2 + 5 * MOST], vec![0; 1 + 11 * 17 * MOST]);
+    let (mut s, mut o) = (vec![0; sample_words(MOST_SAMPLES)], vec![0; octant_words(MOST_OCTANTS)]);
     let run = move || {
         assert_eq!(wrapper::clear(&mut s, &mut o, 1), Ok(()));
         assert_eq!(wrapper::load(&mut s, &mut o, &most), Ok(last as u32));
@@ -617,19 +618,20 @@ fn damaged_tables_long() {
 /// Whole sheets of each kind of colour, with each bucket size, in tables just long enough, one octant row short, and
 /// with the octant rows of half.
 #[test]
-#[ignore = "long: whole sheets of 4,096 lines"]
+#[ignore = "long: whole sheets of the most lines"]
 fn whole_sheets_long() {
     let mut compared = Compared::default();
-    for colours in [scattered(MOST, 33), clustered(MOST, 12, 5_000, 34), close_pairs(MOST, 35)] {
+    let most = MOST_SAMPLES;
+    for colours in [scattered(most, 33), clustered(most, 12, 5_000, 34), close_pairs(most, 35)] {
         let samples = tagged(colours);
-        for bucket in [1, 16, 256] {
+        for bucket in [1, 16, MOST_BUCKET] {
             let whole = exact(&samples, bucket);
             let empty = Tables::of(Bin { samples: vec![], ..whole.clone() });
-            assert_eq!(compared.load(&empty, sheet(&samples)), (0, MOST as u32));
+            assert_eq!(compared.load(&empty, sheet(&samples)), (0, most as u32));
             let octants = whole.octant_rows();
-            assert_eq!(compared.load(&empty.with_rows(MOST, octants - 1), sheet(&samples)).0, 7);
-            let half = exact(&samples[..MOST / 2], bucket).octant_rows();
-            assert_eq!(compared.load(&empty.with_rows(MOST, half), sheet(&samples)).0, 7);
+            assert_eq!(compared.load(&empty.with_rows(most, octants - 1), sheet(&samples)).0, 7);
+            let half = exact(&samples[..most / 2], bucket).octant_rows();
+            assert_eq!(compared.load(&empty.with_rows(most, half), sheet(&samples)).0, 7);
         }
     }
     compared.print("whole sheets, long");

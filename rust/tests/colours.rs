@@ -9,9 +9,11 @@
 mod straight_scan;
 
 mod lent;
+mod numbers;
 mod plain;
 mod random;
 
+use numbers::*;
 use plain::colour::*;
 use random::random;
 
@@ -52,9 +54,9 @@ fn triples(of: &[u32]) -> impl Iterator<Item = [u32; 3]> + '_ {
 
 #[test]
 fn every_code_there_and_back() {
-    for code in 0..=65_535 {
+    for code in 0..=MOST_CODE {
         for channel in 0..3 {
-            let mut codes = [1, 20_000, 65_534];
+            let mut codes = [1, 20_000, MOST_CODE - 1];
             codes[channel] = code;
             let (number, shown) = compare(Call::Floats(codes));
             assert_eq!(number, 0);
@@ -68,10 +70,11 @@ fn every_code_there_and_back() {
 
 #[test]
 fn codes_past_the_end() {
-    let mut codes = vec![0, 1, 65_534, 65_535, 65_536, 65_537, 131_071, 1 << 24, (1 << 24) + 1, u32::MAX];
+    let mut codes = vec![0, 1, MOST_CODE - 1, MOST_CODE, MOST_CODE + 1, MOST_CODE + 2];
+    codes.extend([MOST_RADIUS, 1 << 24, (1 << 24) + 1, u32::MAX]);
     codes.extend((17..32).flat_map(|k| [(1 << k) - 1, 1 << k, (1 << k) + 1]));
     for c in triples(&codes) {
-        let refused = c.iter().any(|&code| code > 65_535);
+        let refused = c.iter().any(|&code| code > MOST_CODE);
         let (number, shown) = compare(Call::Floats(c));
         assert_eq!(number, if refused { 4 } else { 0 });
         assert!(!refused || shown == [0; 3]);
@@ -92,9 +95,10 @@ fn floats_at_boundaries() {
 
 #[test]
 fn floats_mixed() {
-    let few = [0, 1, 0x8000_0000, 0x8000_0001, 0x377F_FFFF, 0x3780_0000, 0x3F7F_FFFF, 0x3F80_0000, 0x4000_0000];
+    let few = [0, 1, 0x8000_0000, 0x8000_0001, least_float(1) - 1, least_float(1)];
+    let ends = [GREATEST_CHANNEL, BAD_CHANNEL, BAD_RADIUS];
     let bad = [0xBF00_0000, 0x7F80_0000, 0xFF80_0000, 0x7F80_0001, 0x7FC0_0000, 0xFFFF_FFFF];
-    triples(&[&few[..], &bad[..], &GOOD[..]].concat()).for_each(|p| _ = compare(Call::Codes(p)));
+    triples(&[&few[..], &ends[..], &bad[..], &GOOD[..]].concat()).for_each(|p| _ = compare(Call::Codes(p)));
     let all = boundaries();
     let mut state = 1;
     for _ in 0..1_000_000 {
@@ -105,7 +109,7 @@ fn floats_mixed() {
             match x % 16 {
                 0 => bits,
                 1 => all[bits as usize % all.len()],
-                _ => bits % 0x3F80_0000,
+                _ => bits % (GREATEST_CHANNEL + 1),
             }
         })));
     }

@@ -21,6 +21,7 @@ mod compared;
 mod days;
 mod lent;
 mod lines;
+mod numbers;
 mod random;
 mod sets;
 
@@ -29,6 +30,7 @@ use compared::query::brief;
 use compared::{query, Compared, ALL_SEVEN};
 use days::*;
 use lent::Lent;
+use numbers::*;
 use random::*;
 use sets::*;
 use straight_scan::{Answer, Call, Codes};
@@ -94,7 +96,7 @@ fn day(
 ) {
     let mut day = Day::new(lengths, state);
     if below(4, state) == 0 {
-        day.call(compared, &Call::Clear(any_of(&[0, 257, u32::MAX], state)));
+        day.call(compared, &Call::Clear(any_of(&[0, MOST_BUCKET + 1, u32::MAX], state)));
     }
     day.call(compared, &Call::Clear(bucket));
     let mut growing = true;
@@ -131,19 +133,19 @@ fn whole_days() {
 }
 
 /// Days with as many rows as there can be, and words past them, on sets that need nearly all of them from the second
-/// call on. No later clear is accepted. Bucket size 256, where the straight scan is quick, which builds a tree for
-/// each line.
+/// call on. No later clear is accepted. The bucket size is the greatest, so that the straight scan, which builds a tree
+/// for each line, is quick.
 fn large_days(compared: &mut Compared, runs: usize, calls: usize, mut state: u64) {
     let state = &mut state;
     for _ in 0..runs {
-        let colours = pool(MOST, state);
-        let samples = tagged((0..MOST - below(10, state)).map(|_| any_of(&colours, state)));
-        let mut day = Day::new((2 + 5 * MOST + below(40, state), 1 + 11 * 8_000), state);
-        day.call(compared, &Call::Clear(256));
+        let colours = pool(MOST_SAMPLES, state);
+        let samples = tagged((0..MOST_SAMPLES - below(10, state)).map(|_| any_of(&colours, state)));
+        let mut day = Day::new((sample_words(MOST_SAMPLES) + below(40, state), octant_words(8_000)), state);
+        day.call(compared, &Call::Clear(MOST_BUCKET));
         assert_eq!(day.call(compared, &Call::Load(sheet(&samples))).number, 0);
         for _ in 0..calls {
             let call = any_of_seven(&day.scanned, &colours, 5, true, state);
-            if !matches!(call, Call::Clear(1..=256)) {
+            if !matches!(call, Call::Clear(1..=MOST_BUCKET)) {
                 day.call(compared, &call);
             }
         }

@@ -25,6 +25,7 @@ mod damage;
 mod days;
 mod lent;
 mod lines;
+mod numbers;
 mod plain;
 mod random;
 mod sets;

@@ -10,9 +10,11 @@
 mod straight_scan;
 
 mod lines;
+mod numbers;
 mod random;
 
 use lines::*;
+use numbers::*;
 use random::*;
 use std::fs;
 use std::path::{Path, PathBuf};
@@ -70,9 +72,9 @@ fn ppm(values: &Colours, maximum: u32) -> Vec<u8> {
     header.into_bytes().into_iter().chain(bytes).collect()
 }
 
-/// Values as codes: the nearest to value * 65,535 / maximum.
+/// Values as codes: the nearest to value * MOST_CODE / maximum.
 fn codes(values: &Colours, maximum: u32) -> Colours {
-    let code = |value: u32| (value as f64 * 65_535.0 / maximum as f64).round() as u32;
+    let code = |value: u32| (value as f64 * MOST_CODE as f64 / maximum as f64).round() as u32;
     values.iter().map(|row| row.iter().map(|colour| colour.map(code)).collect()).collect()
 }
 
@@ -88,10 +90,10 @@ fn drawn(folder: &Path) -> Colours {
 
 /// The matte of a key by the straight scan, and how many pixels are white.
 fn scanned(picture: &Colours, samples: &[Sample], radius: f32) -> (Vec<u8>, usize) {
-    let set = Bin { samples: samples.to_vec(), bucket: 16, sample_words: 2 + 5 * 4_096, octant_words: 1 + 11 * 69_632 };
+    let (sample_words, octant_words) = (sample_words(MOST_SAMPLES), octant_words(MOST_OCTANTS));
+    let set = Bin { samples: samples.to_vec(), bucket: 16, sample_words, octant_words };
     let white = |codes: &Codes| {
-        let centre = codes.map(|code| code as f32 / 65_536.0);
-        let answer = set.pick(&Gesture::Ball { centre, radius }, &vec![0; samples.len()]);
+        let answer = set.pick(&Gesture::Ball { centre: codes.map(float), radius }, &vec![0; samples.len()]);
         assert_eq!(answer.number, 0);
         if answer.listed > 0 {
             255
@@ -147,14 +149,12 @@ fn the_picture_in_docs() {
     assert!(fs::read(folder.join("key.png")).unwrap() == kept, "docs/key.png is not what the examples make");
 }
 
-/// A radius that holds the very colour alone.
-const ONE_CODE: &str = "0.0000152587890625";
-
 /// Pictures of every depth, with pixels picked twice, and radii from none to all; and with a sheet of all their
 /// colours.
 #[test]
 fn pictures_of_every_depth() {
     let folder = folder("depths");
+    let one_code = float(1).to_string(); // a radius that holds the very colour alone
     let state = &mut 1;
     let mut whites = vec![];
     for maximum in [1, 3, 200, 255, 256, 1_000, 65_534, 65_535] {
@@ -170,7 +170,7 @@ fn pictures_of_every_depth() {
         }
         let own: Vec<Sample> = (0..).zip(picture.concat()).map(|(tag, codes)| Sample { tag, codes }).collect();
         fs::write(folder.join("own.txt"), sheet(&own)).unwrap();
-        let white = compare(&folder, &["picture.ppm", "own.txt", ONE_CODE, "matte.pgm"], &picture, &own, ONE_CODE);
+        let white = compare(&folder, &["picture.ppm", "own.txt", &one_code, "matte.pgm"], &picture, &own, &one_code);
         assert_eq!(white, own.len(), "a pixel's colour, of {maximum}, is not the code that it should be");
     }
     for (radius, expected) in [(0, 0), (4, 9 * 14)] {
@@ -222,12 +222,13 @@ fn pictures_that_are_refused() {
 fn samples_and_radii_that_are_refused() {
     let folder = folder("samples");
     fs::write(folder.join("picture.ppm"), ppm(&vec![vec![[1, 2, 3]; 5]; 4], 255)).unwrap();
-    let line = |tag: u32| line_of(tag, [1, 2, 3], "A001");
-    let many: Vec<Vec<u8>> = (0..4_097).map(line).collect();
+    let line = |tag: Tag| line_of(tag, [1, 2, 3], "A001");
+    let many: Vec<Vec<u8>> = (0..=MOST_SAMPLES as Tag).map(line).collect();
+    let no_row = format!("refused by 6: line {MOST_SAMPLES}");
     let sheets = [
         (good_sheet(&[line(7), line(8), line_of("x", [1, 2, 3], "A001")]), "refused by 12: line 2"),
         (good_sheet(&[line(7), line(7)]), "refused by 5: line 1"),
-        (good_sheet(&many), "refused by 6: line 4096"),
+        (good_sheet(&many), no_row.as_str()),
         (sheet_of(3, &[line(7)]), "refused by 11: the sheet's header"),
         (vec![], "refused by 11: the sheet's header"),
     ];
@@ -236,7 +237,8 @@ fn samples_and_radii_that_are_refused() {
         refuse(&folder, &["picture.ppm", "sheet.txt", "0.1", "matte.pgm"], words);
     }
     fs::write(folder.join("sheet.txt"), good_sheet(&[line(7)])).unwrap();
-    for radius in ["2", "-0.5", "inf", "NaN"] {
+    let past = f32::from_bits(BAD_RADIUS).to_string();
+    for radius in [past.as_str(), "-0.5", "inf", "NaN"] {
         refuse(&folder, &["picture.ppm", "sheet.txt", radius, "matte.pgm"], &format!("{radius}: refused by 9: "));
     }
     refuse(&folder, &["picture.ppm", "sheet.txt", "wide", "matte.pgm"], "wide: a radius is a number");

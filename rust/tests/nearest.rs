@@ -14,6 +14,7 @@ mod compared;
 mod damage;
 mod lent;
 mod limits;
+mod numbers;
 mod random;
 mod runs;
 mod sets;
@@ -21,10 +22,11 @@ mod sets;
 use asked::*;
 use compared::{each, samples_of, Compared, Tables, NEAREST, NEAREST_NOT_SOUND};
 use limits::*;
+use numbers::*;
 use random::*;
 use runs::*;
 use sets::*;
-use straight_scan::{distance, Answer, Bin, Call, Codes, Gesture, Sample};
+use straight_scan::{distance, Answer, Call, Codes, Gesture, Sample};
 
 /// Nearest; of sixteen, one that is refused by 9.
 fn any_query(samples: &[u32], state: &mut u64) -> Gesture {
@@ -36,7 +38,7 @@ fn ask(compared: &mut Compared, tables: &Tables, centre: Codes, radius: u32) -> 
 }
 
 /// What is found, as a tag and a squared distance.
-fn found(answer: &Answer) -> Option<(u32, u64)> {
+fn found(answer: &Answer) -> Option<(Tag, u64)> {
     answer.found.then_some((answer.tag, answer.d2))
 }
 
@@ -73,18 +75,19 @@ fn on_planes() {
 #[test]
 fn radii_of_exactly_a_distance() {
     let mut compared = Compared::default();
-    let squares = [[3, 4, 0], [2, 3, 6], [0, 0, 1], [48_000, 0, 36_000], [36_000, 48_000, 0], [1, 1, 1], [LAST; 3]];
+    let squares =
+        [[3, 4, 0], [2, 3, 6], [0, 0, 1], [48_000, 0, 36_000], [36_000, 48_000, 0], [1, 1, 1], [MOST_CODE; 3]];
     for codes in squares.into_iter().chain([[0; 3]]) {
-        let mirrored = codes.map(|code| LAST - code);
-        for (at, centre) in [(codes, [0; 3]), ([0; 3], codes), (mirrored, [LAST; 3]), ([LAST; 3], mirrored)] {
+        let mirrored = codes.map(|code| MOST_CODE - code);
+        for (at, centre) in [(codes, [0; 3]), ([0; 3], codes), (mirrored, [MOST_CODE; 3]), ([MOST_CODE; 3], mirrored)] {
             let alone = tagged([at]);
             let twice = tagged([at, at]);
             // One that is farther, or as far where there is none, comes in first.
-            let after = tagged([at.map(|code| LAST - code), at]);
+            let after = tagged([at.map(|code| MOST_CODE - code), at]);
             for (samples, bucket) in [(&alone, 1), (&twice, 1), (&twice, 2), (&after, 1), (&after, 16)] {
                 let tables = Tables::of(exact(samples, bucket));
                 let d2 = samples.iter().map(|sample| distance(sample.codes, centre)).min().unwrap();
-                for radius in radii_at(d2).into_iter().chain([0, 1, 65_536, 113_510, LARGEST]) {
+                for radius in radii_at(d2).into_iter().chain([0, 1, MOST_CODE + 1, 113_510, MOST_RADIUS]) {
                     let answer = ask(&mut compared, &tables, centre, radius);
                     let within = radius as u64 * radius as u64 > d2;
                     assert_eq!(found(&answer).map(|(_, d2)| d2), within.then_some(d2));
@@ -101,9 +104,9 @@ fn none_within() {
     let mut compared = Compared::default();
     for tables in each(small_sets()) {
         let samples = samples_of(&tables);
-        for centre in centres(&samples).into_iter().chain([[0; 3], [LAST; 3]]).take(60) {
+        for centre in centres(&samples).into_iter().chain([[0; 3], [MOST_CODE; 3]]).take(60) {
             let least = samples.iter().map(|sample| distance(sample.codes, centre)).min();
-            let within = least.map_or(LARGEST, |d2| radii_at(d2)[1]);
+            let within = least.map_or(MOST_RADIUS, |d2| radii_at(d2)[1]);
             for radius in [0, within / 2, within] {
                 assert_eq!(found(&ask(&mut compared, &tables, centre, radius)), None);
             }
@@ -129,7 +132,7 @@ fn mirrored(centre: Codes, [a, b, c]: [u32; 3]) -> Vec<Codes> {
             all.push([0, 1, 2].map(at));
         }
     }
-    all.retain(|codes| codes.iter().all(|&code| code <= LAST));
+    all.retain(|codes| codes.iter().all(|&code| code <= MOST_CODE));
     all.sort();
     all.dedup();
     all
@@ -158,7 +161,7 @@ impl Ties {
         let Some(least) = samples.iter().map(|sample| distance(sample.codes, centre)).min() else { return };
         let equal: Vec<&Sample> = samples.iter().filter(|sample| distance(sample.codes, centre) == least).collect();
         let radii = radii_at(least);
-        for radius in [radii[1] + 1, LARGEST] {
+        for radius in [radii[1] + 1, MOST_RADIUS] {
             let answer = ask(compared, tables, centre, radius);
             assert_eq!(found(&answer).map(|(_, d2)| d2), Some(least));
             self.all += (equal.len() > 1) as usize;
@@ -183,7 +186,7 @@ fn mirrors(compared: &mut Compared, ties: &mut Ties, rounds: usize, mut state: u
         let centre = match below(3, state) {
             0 => [any_of(&plane_codes(), state); 3],
             1 => [0; 3].map(|_: u32| any_of(&plane_codes(), state)),
-            _ => [0; 3].map(|_: u32| below(65_536, state) as u32),
+            _ => [0; 3].map(|_: u32| below(CODE_COUNT, state) as u32),
         };
         let by = match below(4, state) {
             0 => [any_of(&steps, state), 0, 0],
@@ -218,14 +221,14 @@ fn lattices(compared: &mut Compared, ties: &mut Ties, rounds: usize, mut state: 
     for _ in 0..rounds {
         let step = 1 << below(13, state);
         let places = 2 + below(6, state);
-        let origin = [0; 3].map(|_: u32| (below(65_536 - places * step, state) / step * step) as u32);
+        let origin = [0; 3].map(|_: u32| (below(CODE_COUNT - places * step, state) / step * step) as u32);
         let turn = any_of(&[0, step as u32 - 1], state);
         let any = |state: &mut u64| origin.map(|code| (code + (below(places, state) * step) as u32) ^ turn);
         let colours: Vec<Codes> = (0..2 + below(60, state)).map(|_| any(state)).collect();
         let tables = Tables::of(exact(&tagged(colours), any_of(&BUCKETS, state)));
         for _ in 0..4 {
             let half = any_of(&[0, step as u32 / 2], state);
-            let centre = any(state).map(|code| (code + half * below(2, state) as u32).min(LAST));
+            let centre = any(state).map(|code| (code + half * below(2, state) as u32).min(MOST_CODE));
             ties.ask(compared, &tables, centre);
         }
     }
@@ -260,7 +263,7 @@ fn two_octants() {
                 ties.ask(&mut compared, &tables, [plane; 3]);
                 if bucket == 1 && one != other {
                     let first = samples_of(&tables)[tables.set.as_ref().unwrap().walk()[0]].tag;
-                    assert_eq!(ask(&mut compared, &tables, [plane; 3], LARGEST).tag, first);
+                    assert_eq!(ask(&mut compared, &tables, [plane; 3], MOST_RADIUS).tag, first);
                 }
             }
         }
@@ -273,10 +276,11 @@ fn two_octants() {
 #[test]
 fn equal_colours() {
     let mut compared = Compared::default();
-    for codes in [[0; 3], [LAST; 3], [32_767, 32_768, 300]] {
-        for tables in each([1, 2, 17, 257, MOST].map(|n| tagged(vec![codes; n])).to_vec()) {
-            for centre in beside(codes).into_iter().chain([[0; 3], [LAST; 3]]) {
-                let answer = ask(&mut compared, &tables, centre, LARGEST);
+    for codes in [[0; 3], [MOST_CODE; 3], [32_767, 32_768, 300]] {
+        for tables in each([1, 2, 17, MOST_BUCKET as usize + 1, MOST_SAMPLES].map(|n| tagged(vec![codes; n])).to_vec())
+        {
+            for centre in beside(codes).into_iter().chain([[0; 3], [MOST_CODE; 3]]) {
+                let answer = ask(&mut compared, &tables, centre, MOST_RADIUS);
                 assert_eq!(found(&answer), Some((0, distance(codes, centre)))); // the tag of the first
             }
         }
@@ -298,11 +302,10 @@ fn large_sets_asked() {
 fn longest_tables() {
     let mut compared = Compared::default();
     let mut state = 6;
-    for (colours, bucket) in [(scattered(MOST, 32), 16), (close_pairs(MOST, 33), 1)] {
+    for (colours, bucket) in [(scattered(MOST_SAMPLES, 32), 16), (close_pairs(MOST_SAMPLES, 33), 1)] {
         for more in [0, 7] {
             let bin = exact(&tagged(colours.clone()), bucket);
-            let tables =
-                Tables::of(Bin { sample_words: 2 + 5 * MOST + more, octant_words: 1 + 11 * 69_632 + more, ..bin });
+            let tables = Tables::of(longer(&longest(bin), more, more));
             for _ in 0..15 {
                 compared.query(&tables, &any_query(&tables.samples, &mut state), &[]);
             }
@@ -325,7 +328,8 @@ fn floats() {
             }
             assert_eq!(compared.query(&tables, &with_float(&query, at, -0.0), &[]).number, 0);
         }
-        for v in [1.0, 1.5, 1.999_999_9, f32::MIN_POSITIVE, 1e-45, f32::from_bits(0x377F_FFFF)] {
+        let edges = [BAD_CHANNEL, GREATEST_RADIUS, least_float(1) - 1].map(f32::from_bits);
+        for v in [1.5, f32::MIN_POSITIVE, 1e-45].into_iter().chain(edges) {
             assert_eq!(compared.query(&tables, &with_float(&query, 3, v), &[]).number, 0);
         }
     }
@@ -337,12 +341,12 @@ fn floats() {
 fn floats_between_codes() {
     let mut compared = Compared::default();
     let mut state = 7;
-    for tables in each(small_sets()).filter(|tables| (2..30).contains(&tables.samples[0])) {
+    for tables in each(small_sets()).filter(|tables| (2..30).contains(&sample_count(&tables.samples))) {
         for _ in 0..30 {
             let v = float(any_codes(&tables.samples, &mut state)[0]);
             let bits = v.to_bits();
-            let near = [bits + 1, bits.saturating_sub(1), (v + 0.5 / 65_536.0).to_bits(), bits + 2];
-            for v in near.map(f32::from_bits).into_iter().filter(|&v| v < 1.0) {
+            let near = [bits + 1, bits.saturating_sub(1), (v + float(1) / 2.0).to_bits(), bits + 2];
+            for v in near.map(f32::from_bits).into_iter().filter(|&v| good_channel(v)) {
                 let at = below(4, &mut state);
                 compared.query(&tables, &with_float(&any_nearest(&tables.samples, &mut state), at, v), &[]);
             }
@@ -357,8 +361,9 @@ fn questions_in_order() {
     let mut compared = Compared::default();
     let (samples, octants) = exact(&tagged([[5; 3]; 3]), 2).tables();
     let good = nearest([5; 3], 9);
-    let bad = [with_float(&good, 3, 2.0), with_float(&good, 1, 1.0), with_float(&good, 2, f32::NAN)];
-    for (n, m) in [(0, 0), (1, 0), (0, 1), (1, 1), (2, 0), (samples.len(), 0), (1, octants.len())] {
+    let [channel, radius] = [BAD_CHANNEL, BAD_RADIUS].map(f32::from_bits);
+    let bad = [with_float(&good, 3, radius), with_float(&good, 1, channel), with_float(&good, 2, f32::NAN)];
+    for (n, m) in too_short_cuts(&samples, &octants) {
         let tables = Tables::of_words(&samples[..n], &octants[..m]);
         bad.iter().chain([&good]).for_each(|query| assert_eq!(compared.query(&tables, query, &[]).number, 1));
     }
@@ -373,7 +378,7 @@ fn questions_in_order() {
 fn cases() {
     let mut compared = Compared::default();
     let three =
-        [Sample { tag: 7, codes: [0; 3] }, Sample { tag: 8, codes: [LAST; 3] }, Sample { tag: 9, codes: [0; 3] }];
+        [Sample { tag: 7, codes: [0; 3] }, Sample { tag: 8, codes: [MOST_CODE; 3] }, Sample { tag: 9, codes: [0; 3] }];
     let mut tables = Tables::of(exact(&three, 2));
     assert_eq!(found(&ask(&mut compared, &tables, [0; 3], 1)), Some((7, 0)));
     for call in [Call::Remove(7), Call::Add(7, [0; 3])] {
@@ -436,8 +441,14 @@ fn long_tables_that_point_everywhere() {
     in_time(60, || {
         let mut compared = Compared::default();
         let mut state = 15;
-        damage::pointing(MOST, 3_000, 23, &mut 16, &mut seeing(&mut compared, any_query, 1, 8, &mut state));
-        damage::pointing(MOST, 69_632, 131, &mut 17, &mut seeing(&mut compared, any_query, 1, 6, &mut state));
+        damage::pointing(MOST_SAMPLES, 3_000, 23, &mut 16, &mut seeing(&mut compared, any_query, 1, 8, &mut state));
+        damage::pointing(
+            MOST_SAMPLES,
+            MOST_OCTANTS,
+            131,
+            &mut 17,
+            &mut seeing(&mut compared, any_query, 1, 6, &mut state),
+        );
         compared.print("long tables that point everywhere");
     });
 }
@@ -445,14 +456,14 @@ fn long_tables_that_point_everywhere() {
 /// The call stays within the stack that the header says, on the deepest tree and on words that lead as deep.
 #[test]
 fn within_the_stack() {
-    let mut tables = vec![exact(&tagged(close_pairs(MOST, 36)), 1).tables()];
+    let mut tables = vec![exact(&tagged(close_pairs(MOST_SAMPLES, 36)), 1).tables()];
     damage::pointing(60, 300, 41, &mut 18, &mut |samples, octants| tables.push((samples.to_vec(), octants.to_vec())));
     let mut state = 19;
     in_stack_of_a_query(move || {
         for (samples, octants) in &tables {
             for _ in 0..80 {
                 let centre = row_codes(samples, &mut state).map(float);
-                _ = hubeltxa::lent::nearest(samples, octants, centre, float(LARGEST));
+                _ = hubeltxa::lent::nearest(samples, octants, centre, float(MOST_RADIUS));
             }
         }
     });

@@ -14,6 +14,7 @@ mod compared;
 mod damage;
 mod lent;
 mod limits;
+mod numbers;
 mod random;
 mod runs;
 mod sets;
@@ -22,10 +23,11 @@ use asked::*;
 use compared::query::listing;
 use compared::{each, samples_of, Compared, Tables, LISTINGS, LISTINGS_NOT_SOUND};
 use limits::*;
+use numbers::*;
 use random::*;
 use runs::*;
 use sets::*;
-use straight_scan::{distance, Bin, Codes, Gesture, Sample};
+use straight_scan::{distance, Codes, Gesture, Sample};
 
 // Balls.
 
@@ -59,10 +61,11 @@ fn balls_on_planes() {
 #[test]
 fn radii_of_exactly_a_distance() {
     let mut compared = Compared::default();
-    let squares = [[3, 4, 0], [2, 3, 6], [0, 0, 1], [48_000, 0, 36_000], [36_000, 48_000, 0], [1, 1, 1], [LAST; 3]];
+    let squares =
+        [[3, 4, 0], [2, 3, 6], [0, 0, 1], [48_000, 0, 36_000], [36_000, 48_000, 0], [1, 1, 1], [MOST_CODE; 3]];
     for codes in squares {
-        let mirrored = codes.map(|code| LAST - code);
-        for (at, centre) in [(codes, [0; 3]), ([0; 3], codes), (mirrored, [LAST; 3]), ([LAST; 3], mirrored)] {
+        let mirrored = codes.map(|code| MOST_CODE - code);
+        for (at, centre) in [(codes, [0; 3]), ([0; 3], codes), (mirrored, [MOST_CODE; 3]), ([MOST_CODE; 3], mirrored)] {
             let tables = Tables::of(exact(&tagged([at]), 1));
             let d2 = distance(at, centre);
             for radius in radii_at(d2) {
@@ -82,7 +85,7 @@ fn boxes_on_planes(codes: Codes, state: &mut u64) -> Vec<(Codes, Codes)> {
     let between = |_| {
         let (one, other) = (any_of(&planes, state), any_of(&planes, state));
         let (from, to) = (one.min(other), one.max(other));
-        let (mut low, mut high) = if below(2, state) == 0 { ([0; 3], [LAST; 3]) } else { (codes, codes) };
+        let (mut low, mut high) = if below(2, state) == 0 { ([0; 3], [MOST_CODE; 3]) } else { (codes, codes) };
         match below(4, state) {
             3 => (low, high) = ([from; 3], [to; 3]),
             channel => (low[channel], high[channel]) = (from, to),
@@ -98,7 +101,7 @@ fn boxes(compared: &mut Compared, most: usize, mut state: u64) {
     for tables in each(small_sets()) {
         let mut samples = samples_of(&tables);
         let rows = samples.len();
-        samples.extend(tagged([[0; 3], [LAST; 3], [32_767; 3], [32_768; 3]]));
+        samples.extend(tagged([[0; 3], [MOST_CODE; 3], [32_767; 3], [32_768; 3]]));
         let kinds = |codes: Codes| [boxes_at(codes), octant_boxes(codes), boxes_on_planes(codes, state)].concat();
         let all: Vec<(Codes, Codes)> = samples.iter().map(|sample| sample.codes).flat_map(kinds).collect();
         for (low, high) in some(all, most, state) {
@@ -118,8 +121,8 @@ fn boxes_around_samples() {
 #[test]
 fn box_sides() {
     let mut compared = Compared::default();
-    for codes in [[1, 2, 3], [0, LAST, 300], [32_767, 32_768, 16_384], [LAST - 1; 3]] {
-        for tables in each(vec![tagged([codes]), tagged([codes; 20]), tagged([codes, [0; 3], [LAST; 3]])]) {
+    for codes in [[1, 2, 3], [0, MOST_CODE, 300], [32_767, 32_768, 16_384], [MOST_CODE - 1; 3]] {
+        for tables in each(vec![tagged([codes]), tagged([codes; 20]), tagged([codes, [0; 3], [MOST_CODE; 3]])]) {
             let with_it = samples_of(&tables).iter().filter(|sample| sample.codes == codes).count() as u32;
             let all = samples_of(&tables).len() as u32;
             let mut ask = |low, high| {
@@ -127,12 +130,12 @@ fn box_sides() {
                 (given.number, given.listed)
             };
             assert_eq!(ask(codes, codes), (0, with_it));
-            assert_eq!(ask([0; 3], [LAST; 3]), (0, all));
+            assert_eq!(ask([0; 3], [MOST_CODE; 3]), (0, all));
             for channel in 0..3 {
                 let (mut above, mut under) = (codes, codes);
-                if codes[channel] < LAST {
+                if codes[channel] < MOST_CODE {
                     above[channel] += 1;
-                    assert!(ask(above, [LAST; 3]).1 <= all - with_it);
+                    assert!(ask(above, [MOST_CODE; 3]).1 <= all - with_it);
                     assert_eq!(ask(above, codes), (9, 0));
                 }
                 if codes[channel] > 0 {
@@ -168,11 +171,10 @@ fn large_sets_asked() {
 fn longest_tables() {
     let mut compared = Compared::default();
     let mut state = 5;
-    for (colours, bucket) in [(scattered(MOST, 32), 16), (close_pairs(MOST, 33), 1)] {
+    for (colours, bucket) in [(scattered(MOST_SAMPLES, 32), 16), (close_pairs(MOST_SAMPLES, 33), 1)] {
         for more in [0, 7] {
             let bin = exact(&tagged(colours.clone()), bucket);
-            let tables =
-                Tables::of(Bin { sample_words: 2 + 5 * MOST + more, octant_words: 1 + 11 * 69_632 + more, ..bin });
+            let tables = Tables::of(longer(&longest(bin), more, more));
             for _ in 0..5 {
                 compared.query_at_lengths(&tables, &any_query(&tables.samples, &mut state));
             }
@@ -186,8 +188,8 @@ fn longest_tables() {
 fn listings() {
     let mut compared = Compared::default();
     let mut state = 6;
-    for tables in each(small_sets()).filter(|tables| tables.samples[0] < 30) {
-        let rows = tables.samples[0] as usize;
+    for tables in each(small_sets()).filter(|tables| sample_count(&tables.samples) < 30) {
+        let rows = sample_count(&tables.samples);
         for _ in 0..12 {
             let query = any_query(&tables.samples, &mut state);
             let listed = compared.query_at_lengths(&tables, &query).listed as usize;
@@ -207,7 +209,7 @@ fn floats() {
     let sets = vec![tagged([]), tagged([[0; 3]]), tagged(grid(&[0, 32_767, 32_768])), tagged(scattered(40, 40))];
     for tables in each(sets) {
         let long = listing(60);
-        let (some_ball, some_box) = (ball([9; 3], 70_000), box_of([0; 3], [LAST; 3]));
+        let (some_ball, some_box) = (ball([9; 3], 70_000), box_of([0; 3], [MOST_CODE; 3]));
         for at in 0..4 {
             let bad = if at < 3 { bad_channels() } else { bad_radii() };
             for v in bad {
@@ -222,7 +224,8 @@ fn floats() {
             let flat = if at < 3 { some_box } else { box_of([0; 3], [0; 3]) };
             assert_eq!(compared.query(&tables, &with_float(&flat, at, -0.0), &long).number, 0);
         }
-        for v in [1.0, 1.5, 1.999_999_9, f32::MIN_POSITIVE, 1e-45, f32::from_bits(0x377F_FFFF)] {
+        let edges = [BAD_CHANNEL, GREATEST_RADIUS, least_float(1) - 1].map(f32::from_bits);
+        for v in [1.5, f32::MIN_POSITIVE, 1e-45].into_iter().chain(edges) {
             assert_eq!(compared.query(&tables, &with_float(&some_ball, 3, v), &long).number, 0);
         }
     }
@@ -235,20 +238,19 @@ fn floats() {
 fn floats_between_codes() {
     let mut compared = Compared::default();
     let mut state = 7;
-    for tables in each(small_sets()).filter(|tables| (2..30).contains(&tables.samples[0])) {
+    for tables in each(small_sets()).filter(|tables| (2..30).contains(&sample_count(&tables.samples))) {
         let long = listing(40);
         for _ in 0..30 {
             let v = float(any_codes(&tables.samples, &mut state)[0]);
             let bits = v.to_bits();
-            let near = [bits + 1, bits.saturating_sub(1), (v + 0.5 / 65_536.0).to_bits(), bits + 2];
-            for v in near.map(f32::from_bits).into_iter().filter(|&v| v < 1.0) {
+            let near = [bits + 1, bits.saturating_sub(1), (v + float(1) / 2.0).to_bits(), bits + 2];
+            for v in near.map(f32::from_bits).into_iter().filter(|&v| good_channel(v)) {
                 let at = below(4, &mut state);
                 compared.query(&tables, &with_float(&any_ball(&tables.samples, &mut state), at, v), &long);
                 let at = below(6, &mut state);
                 compared.query(&tables, &with_float(&any_box(&tables.samples, &mut state), at, v), &long);
             }
-            let above = f32::from_bits((v + 0.25 / 65_536.0).to_bits());
-            let flat = Gesture::Box { low: [above; 3], high: [v; 3] };
+            let flat = Gesture::Box { low: [v + float(1) / 4.0; 3], high: [v; 3] };
             assert_eq!(compared.query(&tables, &flat, &long).number, 0);
         }
     }
@@ -263,19 +265,17 @@ fn questions_in_order() {
     let (samples, octants) = exact(&tagged([[5; 3]; 3]), 2).tables();
     let queries = [
         (ball([5; 3], 9), false),
-        (with_float(&ball([5; 3], 9), 3, 2.0), true),
-        (with_float(&ball([5; 3], 9), 1, 1.0), true),
+        (with_float(&ball([5; 3], 9), 3, f32::from_bits(BAD_RADIUS)), true),
+        (with_float(&ball([5; 3], 9), 1, f32::from_bits(BAD_CHANNEL)), true),
         (box_of([0; 3], [9; 3]), false),
         (box_of([0, 6, 0], [9, 5, 9]), true),
         (with_float(&box_of([0; 3], [9; 3]), 5, f32::NAN), true),
     ];
-    for (n, m) in [(0, 0), (1, 0), (0, 1), (1, 1), (2, 0), (samples.len(), 0), (1, octants.len()), (usize::MAX, 0)] {
-        let whole = n == usize::MAX;
-        let cut = if whole { (&samples[..], &octants[..]) } else { (&samples[..n], &octants[..m]) };
-        let tables = Tables::of_words(cut.0, cut.1);
+    for (n, m) in too_short_cuts(&samples, &octants).into_iter().chain([(samples.len(), octants.len())]) {
+        let tables = Tables::of_words(&samples[..n], &octants[..m]);
         for (query, bad) in &queries {
             for length in [0, 2, 3, 9] {
-                let asked = [(!whole, 1), (*bad, 9), (length < 3, 13)];
+                let asked = [(too_short(n, m), 1), (*bad, 9), (length < 3, 13)];
                 let first = asked.into_iter().find_map(|(no, number)| no.then_some(number)).unwrap_or(0);
                 assert_eq!(compared.query(&tables, query, &listing(length)).number, first, "{query:?}, {length} words");
             }
@@ -289,9 +289,9 @@ fn questions_in_order() {
 fn cases() {
     let mut compared = Compared::default();
     let three =
-        [Sample { tag: 7, codes: [0; 3] }, Sample { tag: 8, codes: [LAST; 3] }, Sample { tag: 9, codes: [0; 3] }];
+        [Sample { tag: 7, codes: [0; 3] }, Sample { tag: 8, codes: [MOST_CODE; 3] }, Sample { tag: 9, codes: [0; 3] }];
     let tables = Tables::of(exact(&three, 2));
-    let expected: [(u32, &[u32], u32, u32); 4] =
+    let expected: [(u32, &[Tag], u32, u32); 4] =
         [(0, &[], 0, 0), (1, &[7, 9], 2, 2), (113_509, &[7, 9], 3, 1), (113_510, &[7, 9, 8], 1, 0)];
     for (radius, tags, entered, measured) in expected {
         let given = compared.query_at_lengths(&tables, &ball([0; 3], radius));
@@ -354,13 +354,19 @@ fn long_tables_that_point_everywhere() {
     in_time(60, || {
         let mut compared = Compared::default();
         let mut state = 15;
-        damage::pointing(MOST, 3_000, 23, &mut 16, &mut seeing(&mut compared, any_query, 1, 4, &mut state));
-        damage::pointing(MOST, 69_632, 131, &mut 17, &mut seeing(&mut compared, any_query, 1, 2, &mut state));
+        damage::pointing(MOST_SAMPLES, 3_000, 23, &mut 16, &mut seeing(&mut compared, any_query, 1, 4, &mut state));
+        damage::pointing(
+            MOST_SAMPLES,
+            MOST_OCTANTS,
+            131,
+            &mut 17,
+            &mut seeing(&mut compared, any_query, 1, 2, &mut state),
+        );
         compared.print("long tables that point everywhere");
     });
 }
 
-fn ask_all(samples: &[u32], octants: &[u32], queries: &[Gesture], listing: &mut [u32]) {
+fn ask_all(samples: &[u32], octants: &[u32], queries: &[Gesture], listing: &mut [Tag]) {
     for query in queries {
         _ = match *query {
             Gesture::Ball { centre, radius } => hubeltxa::lent::ball(samples, octants, centre, radius, listing),
@@ -373,12 +379,12 @@ fn ask_all(samples: &[u32], octants: &[u32], queries: &[Gesture], listing: &mut 
 /// The calls stay within the stack that the header says, on the deepest tree and on words that lead as deep.
 #[test]
 fn within_the_stack() {
-    let mut tables = vec![exact(&tagged(close_pairs(MOST, 36)), 1).tables()];
+    let mut tables = vec![exact(&tagged(close_pairs(MOST_SAMPLES, 36)), 1).tables()];
     damage::pointing(60, 300, 41, &mut 18, &mut |samples, octants| tables.push((samples.to_vec(), octants.to_vec())));
     let mut state = 19;
     let queries: Vec<Vec<Gesture>> =
         tables.iter().map(|(samples, _)| (0..40).map(|_| any_query(samples, &mut state)).collect()).collect();
-    let mut listing = vec![0; MOST];
+    let mut listing = vec![0; MOST_SAMPLES];
     in_stack_of_a_query(move || {
         for ((samples, octants), queries) in tables.iter().zip(&queries) {
             ask_all(samples, octants, queries, &mut listing);

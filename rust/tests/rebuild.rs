@@ -9,10 +9,12 @@
 mod straight_scan;
 
 mod lent;
+mod numbers;
 mod random;
 mod sets;
 
 use lent::Lent;
+use numbers::*;
 use random::*;
 use sets::*;
 use straight_scan::{Bin, Sample};
@@ -35,9 +37,9 @@ fn oracle(samples: &[u32], octants: &[u32], bucket: u32, n: usize) -> Result<Bin
     if n > bin.sample_rows() {
         return Err(6);
     }
-    let sample = |row: &[u32]| Sample { tag: row[0], codes: [row[1], row[2], row[3]] };
-    bin.samples = samples[2..].chunks_exact(5).take(n).map(sample).collect();
-    if bin.samples.iter().any(|sample| sample.codes.iter().any(|&code| code > 65_535)) {
+    let sample = |row: usize| Sample { tag: tag_of(samples, row).unwrap(), codes: codes_of(samples, row) };
+    bin.samples = (0..n).map(sample).collect();
+    if bin.samples.iter().any(|sample| sample.codes.iter().any(|&code| code > MOST_CODE)) {
         return Err(4);
     }
     if bin.octants() > bin.octant_rows() {
@@ -67,8 +69,8 @@ fn rebuild(samples: &[u32], octants: &[u32], bucket: u32, n: usize) -> u32 {
 /// Rebuilds a set from its rows alone, in tables that otherwise hold anything.
 fn rebuild_set(bin: &Bin, state: &mut u64) -> u32 {
     let (mut samples, mut octants) = bin.tables();
-    let rows: Vec<usize> = (0..bin.samples.len()).map(|i| 2 + 5 * i).collect();
-    let kept = |at: usize| at >= 2 && at < 2 + 5 * rows.len() && (at - 2) % 5 < 4;
+    let rows = sample_words(0)..sample_words(bin.samples.len());
+    let kept = |at: usize| rows.contains(&at) && (at - rows.start) % SAMPLE_ROW != NEXT;
     samples.iter_mut().enumerate().filter(|(at, _)| !kept(*at)).for_each(|(_, word)| *word = random(state) as u32);
     octants.iter_mut().for_each(|word| *word = random(state) as u32);
     rebuild(&samples, &octants, bin.bucket, bin.samples.len())
@@ -83,7 +85,7 @@ fn sets_rebuilt() {
     let mut state = 1;
     for bin in each(small_sets()).chain(each(large_sets())) {
         assert_eq!(rebuild_set(&bin, &mut state), 0);
-        assert_eq!(rebuild_set(&longer(&bin, 5 + 3, 11 + 7), &mut state), 0);
+        assert_eq!(rebuild_set(&with_a_row_more(&bin), &mut state), 0);
         // One octant word too few.
         let (samples, octants) = bin.tables();
         let number = rebuild(&samples, &octants[..octants.len() - 1], bin.bucket, bin.samples.len());
@@ -94,11 +96,11 @@ fn sets_rebuilt() {
 #[test]
 fn longest_tables() {
     let mut state = 2;
-    for colours in [scattered(4_096, 3), clustered(4_096, 12, 5_000, 4), close_pairs(4_096, 5)] {
+    let most = MOST_SAMPLES;
+    for colours in [scattered(most, 3), clustered(most, 12, 5_000, 4), close_pairs(most, 5)] {
         for bucket in [1, 16] {
-            let tables = exact(&tagged(colours.clone()), bucket);
-            let longest = Bin { sample_words: 2 + 5 * 4_096, octant_words: 1 + 11 * 69_632, ..tables };
-            assert_eq!(rebuild_set(&longest, &mut state), 0);
+            let bin = longest(exact(&tagged(colours.clone()), bucket));
+            assert_eq!(rebuild_set(&bin, &mut state), 0);
         }
     }
 }
@@ -109,23 +111,24 @@ fn other_numbers_of_rows() {
     for bin in each(small_sets()) {
         let (samples, octants) = bin.tables();
         let n = bin.samples.len();
-        for rows in (0..n + 3).chain([4_096, 4_097, usize::MAX]) {
+        for rows in (0..n + 3).chain([MOST_SAMPLES, MOST_SAMPLES + 1, usize::MAX]) {
             rebuild(&samples, &octants, bin.bucket, rows);
         }
         assert_eq!(rebuild(&samples, &octants, bin.bucket, n + 1), 6);
     }
-    let (samples, octants) = longer(&exact(&tagged(scattered(4_096, 6)), 256), 5, 11).tables();
-    assert_eq!(rebuild(&samples, &octants, 256, 4_096), 0);
-    assert_eq!(rebuild(&samples, &octants, 256, 4_097), 6);
+    let most = exact(&tagged(scattered(MOST_SAMPLES, 6)), MOST_BUCKET);
+    let (samples, octants) = longer(&most, SAMPLE_ROW, OCTANT_ROW).tables();
+    assert_eq!(rebuild(&samples, &octants, MOST_BUCKET, MOST_SAMPLES), 0);
+    assert_eq!(rebuild(&samples, &octants, MOST_BUCKET, MOST_SAMPLES + 1), 6);
 }
 
 #[test]
 fn bucket_sizes() {
     let (samples, _) = exact(&tagged(clustered(300, 3, 200, 7)), 1).tables();
-    let octants = vec![9; 1 + 11 * 3_000];
+    let octants = vec![9; octant_words(3_000)];
     for bucket in (0..=300).chain([1 << 16, 1 << 31, u32::MAX]) {
         let number = rebuild(&samples, &octants, bucket, 300);
-        assert_eq!(number, if (1..=256).contains(&bucket) { 0 } else { 3 });
+        assert_eq!(number, if (1..=MOST_BUCKET).contains(&bucket) { 0 } else { 3 });
     }
 }
 
@@ -133,10 +136,10 @@ fn bucket_sizes() {
 fn codes_past_the_end() {
     for bin in each(small_sets()) {
         let (samples, octants) = bin.tables();
-        for (i, channel) in (0..bin.samples.len()).flat_map(|i| [1, 2, 3].map(|h| (i, h))) {
-            for code in [65_535, 65_536, u32::MAX] {
+        for (i, channel) in (0..bin.samples.len()).flat_map(|i| [0, 1, 2].map(|h| (i, h))) {
+            for code in [MOST_CODE, MOST_CODE + 1, u32::MAX] {
                 let mut samples = samples.clone();
-                samples[2 + 5 * i + channel] = code;
+                samples[code_place(i, channel)] = code;
                 rebuild(&samples, &octants, bin.bucket, bin.samples.len());
             }
         }
@@ -152,12 +155,12 @@ fn random_words() {
         let (n, m) = (below(40, &mut state), below(90, &mut state));
         let word = |state: &mut u64| match random(state) >> 61 {
             0 => random(state) as u32,
-            1 => any_of(&[0, 1, 65_535, 65_536, u32::MAX], state),
-            _ => below(65_536, state) as u32,
+            1 => any_of(&[0, 1, MOST_CODE, MOST_CODE + 1, u32::MAX], state),
+            _ => below(CODE_COUNT, state) as u32,
         };
         let samples: Vec<u32> = (0..n).map(|_| word(&mut state)).collect();
         let octants: Vec<u32> = (0..m).map(|_| word(&mut state)).collect();
-        let bucket = any_of(&[0, 1, 1, 2, 3, 4, 256, 257], &mut state);
+        let bucket = any_of(&[0, 1, 1, 2, 3, 4, MOST_BUCKET, MOST_BUCKET + 1], &mut state);
         seen[rebuild(&samples, &octants, bucket, below(10, &mut state)) as usize] += 1;
     }
     assert!([0, 1, 3, 4, 6, 7].iter().all(|&number| seen[number] > 100), "{seen:?}");

@@ -17,6 +17,7 @@ mod compared;
 mod days;
 mod lent;
 mod lines;
+mod numbers;
 mod random;
 mod script;
 mod sets;

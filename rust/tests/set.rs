@@ -16,6 +16,7 @@ mod compared;
 mod days;
 mod lent;
 mod lines;
+mod numbers;
 mod random;
 mod sets;
 
@@ -24,6 +25,7 @@ use compared::query::{brief, found, listed};
 use compared::{loaded, number_of, Compared, ALL_SEVEN};
 use days::any_pick;
 use hubeltxa::{Refusal, RefusedLoad, SampleSet};
+use numbers::*;
 use random::*;
 use sets::*;
 use straight_scan::{Answer, Bin, Call, Codes, Gesture, Sample};
@@ -36,7 +38,7 @@ struct Compare {
 
 impl Compare {
     fn new(rows: usize, octants: usize, bucket: u32) -> Self {
-        let scanned = straight_scan::start(2 + 5 * rows, 1 + 11 * octants, bucket).unwrap();
+        let scanned = straight_scan::start(sample_words(rows), octant_words(octants), bucket).unwrap();
         let compare = Compare { set: SampleSet::new(rows, octants, bucket).unwrap(), scanned };
         compare.same("a new set");
         compare
@@ -62,8 +64,8 @@ impl Compare {
     /// More room in the set; the straight scan's tables are as long where that is more than there was, and can be used.
     fn reserve(&mut self, samples: usize, octants: usize) {
         let bin = &mut self.scanned;
-        bin.sample_words = bin.sample_words.max(2 + 5 * samples.min(MOST));
-        bin.octant_words = bin.octant_words.max(1 + 11 * octants.min(17 * MOST));
+        bin.sample_words = bin.sample_words.max(sample_words(samples.min(MOST_SAMPLES)));
+        bin.octant_words = bin.octant_words.max(octant_words(octants.min(MOST_OCTANTS)));
         let what = format!("room for {samples} samples and {octants} octants in {:?}", self.set);
         self.set.reserve(samples, octants);
         self.same(&what);
@@ -91,7 +93,7 @@ fn sample(sample: hubeltxa::Sample) -> Sample {
 }
 
 /// A query, with a listing that must be left so long.
-fn ask(set: &SampleSet, query: &Gesture, lent: Vec<u32>, length: usize) -> Answer {
+fn ask(set: &SampleSet, query: &Gesture, lent: Vec<Tag>, length: usize) -> Answer {
     match *query {
         Gesture::Ball { centre, radius } => listed(lent, |listing| set.ball(centre, radius, listing)),
         Gesture::Box { low, high } => listed(lent, |listing| set.box_(low, high, listing)),
@@ -118,7 +120,7 @@ fn change(set: &mut SampleSet, call: &Call) -> Answer {
 /// just so, and one row or none.
 fn any_rows(kind: usize, colours: &[Codes], bucket: u32, state: &mut u64) -> (usize, usize) {
     match kind {
-        0 => (200, 17 * 200),
+        0 => (200, OCTANTS_A_SAMPLE * 200),
         1 => (1 + below(25, state), 500),
         2 => (100, 1 + below(40, state)),
         3 => {
@@ -184,14 +186,14 @@ fn room_reserved() {
         assert_eq!(compare.call(&mut Compared::default(), &Call::Load(sheet(&samples))).number, 0);
         compare
     };
-    for more_samples in [0, rows - 1, rows, rows + 1, MOST, MOST + 1, usize::MAX] {
-        for more_octants in [0, octants - 1, octants, octants + 20, 17 * MOST, 17 * MOST + 1, usize::MAX] {
+    for more_samples in [0, rows - 1, rows, rows + 1, MOST_SAMPLES, MOST_SAMPLES + 1, usize::MAX] {
+        for more_octants in [0, octants - 1, octants, octants + 20, MOST_OCTANTS, MOST_OCTANTS + 1, usize::MAX] {
             let mut compare = loaded(rows, octants);
             compare.reserve(more_samples, more_octants);
-            let room = (more_samples.clamp(rows, MOST), more_octants.clamp(octants, 17 * MOST));
+            let room = (more_samples.clamp(rows, MOST_SAMPLES), more_octants.clamp(octants, MOST_OCTANTS));
             assert_eq!((compare.set.capacity(), compare.set.octant_capacity()), room);
             assert_eq!(compare.set, loaded(room.0, room.1).set);
-            let number = compare.call(&mut Compared::default(), &Call::Add(u32::MAX, samples[0].codes)).number;
+            let number = compare.call(&mut Compared::default(), &Call::Add(MOST_TAG, samples[0].codes)).number;
             assert_eq!(number, if room.0 == rows { 6 } else { 0 }); // a colour of the set needs no octant of its own
         }
     }
@@ -201,36 +203,36 @@ fn room_reserved() {
 #[test]
 fn rows_for_any_samples() {
     let rows = |set: SampleSet| (set.capacity(), set.octant_capacity());
-    for (samples, expected) in [(0, (0, 0)), (1, (1, 17)), (4_095, (4_095, 17 * 4_095)), (4_096, (4_096, 17 * 4_096))] {
-        assert_eq!(rows(SampleSet::for_samples(samples, 1).unwrap()), expected);
+    for samples in [0, 1, MOST_SAMPLES - 1, MOST_SAMPLES] {
+        assert_eq!(rows(SampleSet::for_samples(samples, 1).unwrap()), (samples, OCTANTS_A_SAMPLE * samples));
     }
-    for many in [4_097, 100_000, usize::MAX / 16, usize::MAX] {
-        assert_eq!(rows(SampleSet::for_samples(many, 256).unwrap()), (4_096, 17 * 4_096));
-        assert_eq!(rows(SampleSet::new(many, many, 256).unwrap()), (4_096, many.min(17 * 4_096)));
+    for many in [MOST_SAMPLES + 1, 100_000, usize::MAX / 16, usize::MAX] {
+        assert_eq!(rows(SampleSet::for_samples(many, MOST_BUCKET).unwrap()), (MOST_SAMPLES, MOST_OCTANTS));
+        assert_eq!(rows(SampleSet::new(many, many, MOST_BUCKET).unwrap()), (MOST_SAMPLES, many.min(MOST_OCTANTS)));
     }
 
     // Pairs of colours that part at the last depth take most octants.
-    for samples in [2, 40, MOST] {
+    for samples in [2, 40, MOST_SAMPLES] {
         let colours = close_pairs(samples, 3).into_iter().enumerate();
-        let samples: Vec<Sample> = colours.map(|(i, codes)| Sample { tag: i as u32, codes }).collect();
+        let samples: Vec<Sample> = colours.map(|(i, codes)| Sample { tag: i as Tag, codes }).collect();
         let mut set = SampleSet::for_samples(samples.len(), 1).unwrap();
         assert_eq!(set.load(&sheet(&samples)), Ok(samples.len() as u32));
         let (s, o) = (set.sample_words(), set.octant_words());
-        let scanned = Bin { samples, bucket: 1, sample_words: s.len(), octant_words: o.len() };
+        let scanned = Bin { sample_words: s.len(), octant_words: o.len(), ..exact(&samples, 1) };
         assert!((s, o) == (&*scanned.tables().0, &*scanned.tables().1));
-        assert_eq!(set.add(u32::MAX, [0; 3]), Err(Refusal::NoRow));
+        assert_eq!(set.add(MOST_TAG, [0; 3]), Err(Refusal::NoRow));
     }
-    let one_too_many = sheet(&tagged(scattered(MOST + 1, 5)));
-    let refused = RefusedLoad { refusal: Refusal::NoRow, taken: MOST as u32 };
-    let mut set = SampleSet::for_samples(MOST + 1, 16).unwrap();
+    let one_too_many = sheet(&tagged(scattered(MOST_SAMPLES + 1, 5)));
+    let refused = RefusedLoad { refusal: Refusal::NoRow, taken: MOST_SAMPLES as u32 };
+    let mut set = SampleSet::for_samples(MOST_SAMPLES + 1, 16).unwrap();
     assert_eq!(set.load(&one_too_many), Err(refused));
     set.reserve(usize::MAX, usize::MAX);
-    assert_eq!(set.add(u32::MAX, [0; 3]), Err(Refusal::NoRow));
+    assert_eq!(set.add(MOST_TAG, [0; 3]), Err(Refusal::NoRow));
 }
 
 #[test]
 fn bucket_sizes_that_are_refused() {
-    for bucket in [0, 257, u32::MAX] {
+    for bucket in [0, MOST_BUCKET + 1, u32::MAX] {
         assert_eq!(SampleSet::new(10, 10, bucket), Err(Refusal::Bucket));
         assert_eq!(SampleSet::for_samples(10, bucket), Err(Refusal::Bucket));
     }
@@ -256,7 +258,7 @@ fn equal_sets() {
 /// Threads that ask one set at once are each answered as the straight scan answers, in a listing of their own.
 #[test]
 fn asked_by_several_threads() {
-    let mut compare = Compare::new(MOST, 17 * MOST, 16);
+    let mut compare = Compare::new(MOST_SAMPLES, MOST_OCTANTS, 16);
     compare.call(&mut Compared::default(), &Call::Load(sheet(&tagged(scattered(1_000, 6)))));
     let (set, scanned) = (&compare.set, &compare.scanned);
     std::thread::scope(|threads| {

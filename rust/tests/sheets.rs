@@ -9,13 +9,14 @@ mod straight_scan;
 
 mod lent;
 mod lines;
+mod numbers;
 mod plain;
 mod random;
 
-use hubeltxa::{HEADER_LENGTH as HEADER, LINE_LENGTH as LINE};
 use lent::Lendable;
 use lines::edits::{edited, recount, tags_in};
 use lines::*;
+use numbers::*;
 use plain::sheet::*;
 use random::{any_of, below, random};
 use straight_scan::Sample;
@@ -48,7 +49,7 @@ fn compare(call: Call) -> Answer {
 }
 
 /// Writes a line, and gives the number and the buffer.
-fn write(tag: u32, codes: [u32; 3], name: &[u8], lent: usize) -> (u32, Vec<u8>) {
+fn write(tag: Tag, codes: [u32; 3], name: &[u8], lent: usize) -> (u32, Vec<u8>) {
     match compare(Call::Line { tag, codes, name, lent }) {
         Answer::Line(number, line) => (number, line),
         Answer::Name(_) => unreachable!(),
@@ -56,7 +57,7 @@ fn write(tag: u32, codes: [u32; 3], name: &[u8], lent: usize) -> (u32, Vec<u8>) 
 }
 
 /// Looks a name up, and gives it.
-fn look_up(sheet: &[u8], tag: u32) -> &[u8] {
+fn look_up(sheet: &[u8], tag: Tag) -> &[u8] {
     match compare(Call::Name { sheet, tag }) {
         Answer::Name(range) => &sheet[range],
         Answer::Line(..) => unreachable!(),
@@ -71,50 +72,41 @@ fn edges() -> Vec<u32> {
 }
 
 /// A tag, at an edge or anywhere; half of them small, so that some are equal.
-fn any_tag(state: &mut u64) -> u32 {
+fn any_tag(state: &mut u64) -> Tag {
     match random(state) >> 62 {
         0 => any_of(&edges(), state),
-        1 => random(state) as u32,
-        _ => below(8, state) as u32,
+        1 => random(state) as Tag,
+        _ => below(8, state) as Tag,
     }
 }
 
 fn any_code(state: &mut u64) -> u32 {
-    let codes = [0, 9, 10, 99, 100, 999, 1_000, 9_999, 10_000, 65_534, 65_535];
+    let codes = [0, 9, 10, 99, 100, 999, 1_000, 9_999, 10_000, MOST_CODE - 1, MOST_CODE];
     match random(state) >> 63 {
         0 => any_of(&codes, state),
-        _ => below(65_536, state) as u32,
+        _ => below(CODE_COUNT, state) as u32,
     }
 }
 
 /// A good name.
 fn any_name(state: &mut u64) -> Vec<u8> {
-    let length = any_of(&[1, 2, 4, 4, 4, 9, 31, 32], state);
+    let length = any_of(&[1, 2, 4, 4, 4, 9, NAME_COLUMNS - 1, NAME_COLUMNS], state);
     (0..length).map(|_| 33 + below(94, state) as u8).collect()
 }
 
 fn any_line(state: &mut u64) -> Vec<u8> {
     let codes = [0; 3].map(|_: u32| any_code(state));
-    write(any_tag(state), codes, &any_name(state), LINE).1
+    write(any_tag(state), codes, &any_name(state), LINE_LENGTH).1
 }
 
 fn any_lines(count: usize, state: &mut u64) -> Vec<Vec<u8>> {
     (0..count).map(|_| any_line(state)).collect()
 }
 
-/// Three lines with short and long numbers and names.
-fn plain_lines() -> Vec<Vec<u8>> {
-    vec![
-        line_of("7", ["0", "10", "65535"], "A001"),
-        line_of("4294967295", ["65535", "999", "1000"], "!2345678901234567890123456789012"),
-        line_of("0", ["9", "65535", "0"], "~"),
-    ]
-}
-
 /// Good sheets, to be altered: of two lines, of three, and of two with equal tags.
 fn sheets() -> [Vec<u8>; 3] {
     let same = [line_of("17", ["1", "2", "3"], "one"), line_of("17", ["1", "2", "3"], "other")];
-    [good_sheet(&plain_lines()[..2]), good_sheet(&plain_lines()), good_sheet(&same)]
+    [good_sheet(&three_lines()[..2]), good_sheet(&three_lines()), good_sheet(&same)]
 }
 
 /// Looks up every tag of two sheets in the second, and one tag of neither.
@@ -146,10 +138,14 @@ fn columns(text: &str, width: usize) -> Vec<Vec<u8>> {
 }
 
 /// Where the columns of the count and of line 0 start, and how many they are.
-const COUNT: (usize, usize) = (8, 6);
-const TAG: (usize, usize) = (HEADER, 10);
-const CODES: [(usize, usize); 3] = [(HEADER + 10, 6), (HEADER + 16, 6), (HEADER + 22, 6)];
-const NAME: (usize, usize) = (HEADER + 29, 32);
+const COUNT: (usize, usize) = (TITLE.len(), COUNT_COLUMNS);
+const TAG: (usize, usize) = (HEADER_LENGTH, TAG_COLUMNS);
+const CODES: [(usize, usize); 3] = [code_columns(0), code_columns(1), code_columns(2)];
+const NAME: (usize, usize) = (HEADER_LENGTH + NAME_START, NAME_COLUMNS);
+
+const fn code_columns(channel: usize) -> (usize, usize) {
+    (HEADER_LENGTH + code_start(channel), CODE_COLUMNS)
+}
 
 // Writing.
 
@@ -158,15 +154,15 @@ fn names_written() {
     let name: Vec<u8> = (0..1_000).map(|i| 33 + (i * 7 % 94) as u8).collect();
     for length in (0..=130).chain([255, 256, 257, 1_000]) {
         let (number, _) = write(7, [1, 2, 3], &name[..length], 100);
-        assert_eq!(number, if (1..=32).contains(&length) { 0 } else { 10 });
+        assert_eq!(number, if (1..=NAME_COLUMNS).contains(&length) { 0 } else { 10 });
     }
-    for length in [1, 2, 3, 16, 31, 32, 33] {
+    for length in [1, 2, 3, 16, NAME_COLUMNS - 1, NAME_COLUMNS, NAME_COLUMNS + 1] {
         for place in 0..length {
             for byte in 0..=255 {
                 let mut altered = name[..length].to_vec();
                 altered[place] = byte;
-                let (number, _) = write(7, [1, 2, 3], &altered, LINE);
-                assert_eq!(number == 0, length < 33 && (33..=126).contains(&byte));
+                let (number, _) = write(7, [1, 2, 3], &altered, LINE_LENGTH);
+                assert_eq!(number == 0, length <= NAME_COLUMNS && (33..=126).contains(&byte));
             }
         }
     }
@@ -175,25 +171,25 @@ fn names_written() {
 #[test]
 fn tags_written() {
     for tag in edges() {
-        for lent in [LINE, 100] {
-            let (number, line) = write(tag, [0, 10, 65_535], b"A001", lent);
-            assert_eq!((number, &line[..10]), (0, format!("{tag:>10}").as_bytes()));
+        for lent in [LINE_LENGTH, 100] {
+            let (number, line) = write(tag, [0, 10, MOST_CODE], b"A001", lent);
+            assert_eq!((number, &line[..TAG_COLUMNS]), (0, format!("{tag:>TAG_COLUMNS$}").as_bytes()));
         }
     }
 }
 
 #[test]
 fn codes_written() {
-    for code in 0..=65_600 {
+    for code in 0..=MOST_CODE + 65 {
         for channel in 0..3 {
-            let mut codes = [1, 20_000, 65_535];
+            let mut codes = [1, 20_000, MOST_CODE];
             codes[channel] = code;
-            assert_eq!(write(7, codes, b"A001", LINE).0, if code > 65_535 { 4 } else { 0 });
+            assert_eq!(write(7, codes, b"A001", LINE_LENGTH).0, if code > MOST_CODE { 4 } else { 0 });
         }
     }
     for red in edges() {
-        for green in [0, 9, 65_535, 65_536, u32::MAX] {
-            edges().into_iter().for_each(|blue| _ = write(7, [red, green, blue], b"A001", LINE));
+        for green in [0, 9, MOST_CODE, MOST_CODE + 1, u32::MAX] {
+            edges().into_iter().for_each(|blue| _ = write(7, [red, green, blue], b"A001", LINE_LENGTH));
         }
     }
 }
@@ -201,9 +197,9 @@ fn codes_written() {
 #[test]
 fn buffers_written() {
     for lent in (0..=200).chain([1_000, 65_536]) {
-        let (number, line) = write(u32::MAX, [65_535, 0, 10], b"A001", lent);
-        assert_eq!(number, if lent < 62 { 13 } else { 0 });
-        let from = if number == 0 { LINE } else { 0 };
+        let (number, line) = write(MOST_TAG, [MOST_CODE, 0, 10], b"A001", lent);
+        assert_eq!(number, if lent < LINE_LENGTH { 13 } else { 0 });
+        let from = if number == 0 { LINE_LENGTH } else { 0 };
         assert_eq!(line[from..], buffer(lent)[from..]);
     }
 }
@@ -211,14 +207,15 @@ fn buffers_written() {
 /// Any of the three may be refused, alone and with others: 4 comes before 10, and 10 before 13.
 #[test]
 fn refusals_in_order() {
-    let codes = [0, 65_535, 65_536, u32::MAX];
-    let long = [b'A'; 40];
-    let names: [&[u8]; 8] = [b"A001", &long[..32], b"", &long[..33], &long, b"A 1", b"\x7F", b"A001\n"];
+    let codes = [0, MOST_CODE, MOST_CODE + 1, u32::MAX];
+    let long = [b'A'; NAME_COLUMNS + 8];
+    let (good, over) = (&long[..NAME_COLUMNS], &long[..NAME_COLUMNS + 1]);
+    let names: [&[u8]; 8] = [b"A001", good, b"", over, &long, b"A 1", b"\x7F", b"A001\n"];
     for (i, name) in names.into_iter().enumerate() {
-        for lent in [0, 1, 28, 61, 62, 63, 100] {
+        for lent in [0, 1, NAME_START - 1, LINE_LENGTH - 1, LINE_LENGTH, LINE_LENGTH + 1, 100] {
             for n in 0..64 {
                 let codes = [codes[n % 4], codes[n / 4 % 4], codes[n / 16]];
-                let asked = [(codes.iter().any(|&c| c > 65_535), 4), (i > 1, 10), (lent < 62, 13)];
+                let asked = [(codes.iter().any(|&c| c > MOST_CODE), 4), (i > 1, 10), (lent < LINE_LENGTH, 13)];
                 let first = asked.into_iter().find_map(|(no, number)| no.then_some(number));
                 let (number, line) = write(7, codes, name, lent);
                 assert_eq!(number, first.unwrap_or(0));
@@ -231,6 +228,7 @@ fn refusals_in_order() {
 /// Random lines, most of them good.
 #[test]
 fn lines_written() {
+    const LENT: [usize; 6] = [LINE_LENGTH - 1, LINE_LENGTH, LINE_LENGTH, LINE_LENGTH, LINE_LENGTH + 1, 2 * LINE_LENGTH];
     let mut state = 1;
     for _ in 0..200_000 {
         let s = &mut state;
@@ -242,7 +240,7 @@ fn lines_written() {
             2 => name.push(b'!'),
             _ => {}
         }
-        write(any_tag(s), codes, &name, any_of(&[61, 62, 62, 62, 63, 124], s));
+        write(any_tag(s), codes, &name, any_of(&LENT, s));
     }
 }
 
@@ -251,13 +249,14 @@ fn lines_written() {
 /// Names in good sheets, by each tag and by tags that are not there; the first of equal tags counts.
 #[test]
 fn good_sheets() {
+    assert!(straight_scan::line(GUARD).is_some());
     for count in [0, 1, 2, 3, 7, 9, 10, 11, 99, 100, 101] {
         let lines: Vec<_> = (0..count).map(|k| line_of(k % 60, ["0"; 3], &format!("N{k}"))).collect();
         let sheet = good_sheet(&lines);
         for tag in 0..count.min(60) {
             assert_eq!(look_up(&sheet, tag), format!("N{tag}").as_bytes());
         }
-        for tag in [count.min(60), 60, 99, 1_000, u32::MAX] {
+        for tag in [count.min(60), 60, 99, 1_000, MOST_TAG] {
             assert_eq!(look_up(&sheet, tag), b"");
         }
     }
@@ -278,7 +277,7 @@ fn many_lines() {
         assert_eq!(look_up(&sheet, count - 1), b"A001");
         sheet.extend(GUARD);
         assert_eq!(look_up(&sheet, 0), b"");
-        sheet.truncate(HEADER + LINE * count as usize - 1);
+        sheet.truncate(sheet_length(count as usize) - 1);
         sheet.push(b' ');
         assert_eq!(look_up(&sheet, 0), b"");
     }
@@ -310,7 +309,7 @@ fn cut_and_extended() {
             look_up_all(&sheet, &[&sheet[..], &[byte]].concat());
             look_up_all(&sheet, &[&[byte], &sheet[..]].concat());
         }
-        for at in [0, 8, 14, HEADER, HEADER + LINE, sheet.len()] {
+        for at in [0, TITLE.len(), HEADER_LENGTH - 1, HEADER_LENGTH, sheet_length(1), sheet.len()] {
             look_up_all(&sheet, &[&sheet[..at], GUARD, &sheet[at..]].concat());
         }
     }
@@ -319,7 +318,7 @@ fn cut_and_extended() {
 /// A line removed, doubled or put in, with every count from 0 to one more than there then are.
 #[test]
 fn other_lines() {
-    let lines = plain_lines();
+    let lines = three_lines();
     let before = good_sheet(&lines);
     let mut lists = vec![vec![], lines.clone()];
     for k in 0..=lines.len() {
@@ -340,20 +339,22 @@ fn other_lines() {
 /// Texts where a number should be: in the count and in each number of a line.
 #[test]
 fn numbers_in_columns() {
-    let long = [4_294_967_290_u64..4_294_967_310, 9_999_999_990..10_000_000_000];
-    let short = [0_u64..12, 65_530..65_540, 99_990..100_010, 655_350..655_370, 999_990..1_000_000];
+    let (tag, wide) = (u128::from(MOST_TAG), 10_u128.pow(TAG_COLUMNS as u32));
+    let long = [tag - 5..tag + 15, wide - 10..wide];
+    let short = [0_u128..12, 65_530..65_540, 99_990..100_010, 655_350..655_370, 999_990..1_000_000];
     let numbers = long.into_iter().chain(short).flatten().map(|n| n.to_string());
-    let others = "|00|000000|0000000000|07|0007|000007|0000000007|065535|7 7|7  7|1 2 3|-7|+7|-0|+0|- 7|7-|7.0|7.|.7\
+    let zeros = [0, 7].map(|n| format!("{n:0TAG_COLUMNS$}"));
+    let others = "|00|000000|07|0007|000007|065535|7 7|7  7|1 2 3|-7|+7|-0|+0|- 7|7-|7.0|7.|.7\
         |0x7|7e1|1,000|1_000|7\t|\t7|7\n|\n7|\x007|7\0|O|l|/|:|٧|²|65535 0|0 65535|4294967295 | 4294967295";
-    let texts: Vec<String> = numbers.chain(others.split('|').map(String::from)).collect();
+    let texts: Vec<String> = numbers.chain(zeros).chain(others.split('|').map(String::from)).collect();
     let mut state = 3;
-    let seven = good_sheet(&[plain_lines(), any_lines(4, &mut state)].concat());
+    let seven = good_sheet(&[three_lines(), any_lines(4, &mut state)].concat());
     for sheet in sheets().into_iter().chain([seven]) {
-        let last = sheet.len() - HEADER - LINE;
+        let last = sheet.len() - sheet_length(1);
         for (at, width) in [COUNT, TAG, CODES[0], CODES[1], CODES[2]] {
             for column in texts.iter().flat_map(|text| columns(text, width)) {
                 look_up_with(&sheet, at, &column);
-                if at >= HEADER {
+                if at >= HEADER_LENGTH {
                     look_up_with(&sheet, at + last, &column);
                 }
             }
@@ -364,24 +365,26 @@ fn numbers_in_columns() {
     }
 }
 
-/// Every text of a few bytes, in each place of a number.
+/// Every text of a few bytes, in each place of a number: in all columns of a count and of a code, and in the last ten of a
+/// tag.
 #[test]
 fn texts_in_columns() {
+    const TEN: usize = 10;
     let sheet = &sheets()[0];
-    texts(b" 02-", 6).for_each(|count| look_up_with(sheet, COUNT.0, &count));
-    texts(b" 07", 10).for_each(|tag| look_up_with(sheet, TAG.0, &tag));
-    for (at, _) in CODES {
-        texts(b" 0356", 6).for_each(|code| look_up_with(sheet, at, &code));
+    texts(b" 02-", COUNT.1 as u32).for_each(|count| look_up_with(sheet, COUNT.0, &count));
+    texts(b" 07", TEN as u32).for_each(|tag| look_up_with(sheet, TAG.0 + TAG.1 - TEN, &tag));
+    for (at, width) in CODES {
+        texts(b" 0356", width as u32).for_each(|code| look_up_with(sheet, at, &code));
     }
 }
 
-/// Names of every length, with every byte in turn at every place of the 32 columns: blanks within,
-/// and something after the name.
+/// Names of every length, with every byte in turn at every place of the columns: blanks within, and something after the
+/// name.
 #[test]
 fn names_in_columns() {
     let sheet = &sheets()[0];
     for length in 0..=NAME.1 {
-        let name = format!("{:<32}", "N".repeat(length)).into_bytes();
+        let name = format!("{:<NAME_COLUMNS$}", "N".repeat(length)).into_bytes();
         for place in 0..NAME.1 {
             for byte in 0..=255 {
                 let mut altered = name.clone();
@@ -401,7 +404,7 @@ fn random_bytes() {
         let s = &mut state;
         // Now of any bytes, now of those that sheets have; and the longer ones of whole lines.
         let alphabet: &[u8] = any_of(&[&b" \n0123456789SWATCHES!~"[..], b" 0", b" 1\nA"], s);
-        let length = if below(2, s) == 0 { below(200, s) } else { HEADER + LINE * below(4, s) };
+        let length = if below(2, s) == 0 { below(200, s) } else { sheet_length(below(4, s)) };
         let wild = below(3, s) == 0;
         let byte = |s: &mut u64| if wild { random(s) as u8 } else { any_of(alphabet, s) };
         let mut sheet: Vec<u8> = (0..length).map(|_| byte(s)).collect();
@@ -433,15 +436,16 @@ fn random_edits() {
 fn written_and_looked_up() {
     let mut state = 6;
     for count in (0..200).chain([1_000]) {
-        let mut sheet = good_sheet(&vec![vec![b'?'; LINE]; count]);
-        let mut names: Vec<(u32, Vec<u8>)> = vec![];
+        let mut sheet = good_sheet(&vec![vec![b'?'; LINE_LENGTH]; count]);
+        let mut names: Vec<(Tag, Vec<u8>)> = vec![];
         for k in 0..count {
             let (tag, name) = (any_tag(&mut state), any_name(&mut state));
             let codes = [0; 3].map(|_: u32| any_code(&mut state));
-            let lent = &mut sheet[HEADER + LINE * k..];
+            let lent = &mut sheet[sheet_length(k)..];
             hubeltxa::write_line(tag, codes, &name, lent).unwrap();
-            assert_eq!(write(tag, codes, &name, LINE), (0, lent[..LINE].to_vec()));
-            assert_eq!(straight_scan::line(&lent[..LINE]), Some((Sample { tag, codes }, name.len())));
+            let line = &lent[..LINE_LENGTH];
+            assert_eq!(write(tag, codes, &name, LINE_LENGTH), (0, line.to_vec()));
+            assert_eq!(straight_scan::line(line), Some((Sample { tag, codes }, name.len())));
             if names.iter().all(|(t, _)| *t != tag) {
                 names.push((tag, name));
             }

@@ -11,12 +11,14 @@ mod straight_scan;
 mod compared;
 mod damage;
 mod lent;
+mod numbers;
 mod random;
 mod sets;
 
 use damage::{any_words, Both};
 use hubeltxa::raw;
 use lent::Lent;
+use numbers::*;
 use random::*;
 use sets::*;
 use straight_scan::{Bin, Call, Sample};
@@ -74,9 +76,11 @@ fn refuse(samples: &[u32], octants: &[u32]) {
 
 fn check_lengths(bin: &Bin) {
     check_sound(bin);
-    for (samples, octants) in [(1, 0), (0, 1), (4, 10), (5, 11), (5 + 3, 11 + 7), (64, 64)] {
+    let row = (SAMPLE_ROW, OCTANT_ROW);
+    for (samples, octants) in [(1, 0), (0, 1), (row.0 - 1, row.1 - 1), row, (64, 64)] {
         check_sound(&longer(bin, samples, octants));
     }
+    check_sound(&with_a_row_more(bin));
     let (samples, octants) = bin.tables();
     assert!(!check(&samples, &octants[..octants.len() - 1]));
     assert!(!check(&samples[..samples.len() - 1], &octants));
@@ -91,27 +95,22 @@ fn sound_tables() {
 fn sound_tables_of_large_sets() {
     for bin in each(large_sets()) {
         check_sound(&bin);
-        let more = longer(&bin, 5 + 3, 11 + 7);
-        check_sound(&more);
+        check_sound(&with_a_row_more(&bin));
         let (samples, octants) = bin.tables();
         assert!(!check(&samples, &octants[..octants.len() - 1]));
     }
-    // More rows than 4,096: those past them are no rows.
-    let bin = exact(&tagged(scattered(4_096, 31)), 16);
-    let mut both = Both::of(&longer(&bin, 5, 11));
+    // Words for more rows than there can be: those past the most are no rows.
+    let bin = exact(&tagged(scattered(MOST_SAMPLES, 31)), 16);
+    let mut both = Both::of(&longer(&bin, SAMPLE_ROW, OCTANT_ROW));
     assert!(both.show(check));
-    assert!(!both.with(0, 4_097, check));
+    assert!(!both.with(SAMPLE_COUNT, MOST_SAMPLES as u32 + 1, check));
 }
 
 #[test]
 fn longest_tables() {
-    for colours in [scattered(4_096, 32), close_pairs(4_096, 33)] {
+    for colours in [scattered(MOST_SAMPLES, 32), close_pairs(MOST_SAMPLES, 33)] {
         for bucket in [1, 16] {
-            let tables = Bin {
-                sample_words: 2 + 5 * 4_096,
-                octant_words: 1 + 11 * 69_632,
-                ..exact(&tagged(colours.clone()), bucket)
-            };
+            let tables = longest(exact(&tagged(colours.clone()), bucket));
             check_sound(&tables);
             let mut both = Both::of(&tables);
             let last = both.words.len() - 1;
@@ -123,28 +122,28 @@ fn longest_tables() {
 /// Every bucket size, and those past either end.
 #[test]
 fn bucket_sizes() {
-    for samples in [small_sets()[9].clone(), tagged(scattered(300, 41)), tagged([[7; 3]; 258])] {
-        for bucket in 1..=256 {
+    for samples in [small_sets()[9].clone(), tagged(scattered(300, 41)), tagged([[7; 3]; MOST_BUCKET as usize + 2])] {
+        for bucket in 1..=MOST_BUCKET {
             check_sound(&exact(&samples, bucket));
         }
         let mut both = Both::of(&exact(&samples, 16));
-        for bucket in (0..=300).chain([512, 65_536, 1 << 31, u32::MAX]) {
-            both.with(1, bucket, check);
+        for bucket in (0..=300).chain([512, 1 << 16, 1 << 31, u32::MAX]) {
+            both.with(BUCKET_SIZE, bucket, check);
         }
-        assert!(!both.with(1, 0, check));
-        assert!(!both.with(1, 257, check));
+        assert!(!both.with(BUCKET_SIZE, 0, check));
+        assert!(!both.with(BUCKET_SIZE, MOST_BUCKET + 1, check));
     }
     // All in the root whatever the bucket size, so that only its range counts.
     let mut both = Both::of(&exact(&tagged([[5; 3]]), 16));
     for bucket in 0..=300 {
-        assert_eq!(both.with(1, bucket, check), (1..=256).contains(&bucket));
+        assert_eq!(both.with(BUCKET_SIZE, bucket, check), (1..=MOST_BUCKET).contains(&bucket));
     }
 }
 
 #[test]
 fn every_word_changed() {
     for bin in each(small_sets()).filter(|bin| bin.octant_words < 1_500) {
-        damage::words_changed(&longer(&bin, 5 + 3, 11 + 7), 1, &mut look);
+        damage::words_changed(&with_a_row_more(&bin), 1, &mut look);
     }
 }
 
@@ -156,8 +155,8 @@ fn change_some_words(bin: &Bin, step: usize) {
 fn words_of_large_sets_changed() {
     change_some_words(&exact(&tagged(scattered(300, 51)), 2), 101);
     change_some_words(&exact(&tagged(clustered(1_000, 5, 300, 52)), 16), 211);
-    change_some_words(&exact(&tagged(scattered(4_096, 53)), 16), 1_009);
-    change_some_words(&exact(&tagged([[65_535; 3]; 4_096]), 256), 2_003);
+    change_some_words(&exact(&tagged(scattered(MOST_SAMPLES, 53)), 16), 1_009);
+    change_some_words(&exact(&tagged([[MOST_CODE; 3]; MOST_SAMPLES]), MOST_BUCKET), 2_003);
 }
 
 #[test]
@@ -171,28 +170,28 @@ fn tables_cut() {
         damage::tables_cut(&bin, &mut look);
     }
     for bin in each(small_sets()).filter(|bin| bin.samples.len() < 4 && bin.octant_words < 50) {
-        let (samples, octants) = longer(&bin, 6, 3).tables();
+        let (samples, octants) = longer(&bin, SAMPLE_ROW + 1, 3).tables();
         for n in 0..=samples.len() {
             (0..=octants.len()).for_each(|m| _ = check(&samples[..n], &octants[..m]));
         }
     }
 }
 
-/// Every table of a few words, each from a few numbers: those of 0, 1 and 2 words among them.
+/// Every table of a few words, each from a few numbers: those that are too short among them.
 #[test]
 fn tables_of_few_words() {
     let lists = |length: u32| {
-        let few = [0, 1, 2, 256, 257, u32::MAX];
+        let few = [0, 1, 2, MOST_BUCKET, MOST_BUCKET + 1, u32::MAX];
         let list = move |k: usize| (0..length).map(|i| few[k / 6_usize.pow(i) % 6]).collect::<Vec<u32>>();
         (0..6_usize.pow(length)).map(list)
     };
     let sound = |samples: &[u32], octants: &[u32]| {
         let zeros = |words: &[u32]| words.iter().all(|&word| word == 0);
-        let header = samples.len() >= 2 && samples[0] == 0 && (1..=256).contains(&samples[1]);
-        header && zeros(&samples[2..]) && !octants.is_empty() && zeros(octants)
+        let none = !too_short(samples.len(), octants.len()) && sample_count(samples) == 0 && zeros(octants);
+        none && (1..=MOST_BUCKET).contains(&samples[BUCKET_SIZE]) && zeros(&samples[SAMPLE_HEADER..])
     };
-    for samples in (0..=4).flat_map(lists) {
-        for octants in (0..=2).flat_map(lists) {
+    for samples in (0..=SAMPLE_HEADER as u32 + 2).flat_map(lists) {
+        for octants in (0..=OCTANT_HEADER as u32 + 1).flat_map(lists) {
             assert_eq!(check(&samples, &octants), sound(&samples, &octants));
         }
     }
@@ -218,23 +217,23 @@ fn children_swapped() {
 #[test]
 fn equal_tags() {
     let mut state = 61;
-    let bins = each(small_sets()).chain([exact(&tagged(scattered(4_096, 62)), 16)]);
+    let bins = each(small_sets()).chain([exact(&tagged(scattered(MOST_SAMPLES, 62)), 16)]);
     bins.for_each(|bin| damage::equal_tags(&bin, &mut state, &mut refuse));
 }
 
 /// Tags that differ in one bit; tags in a row, from either end; and each of these with one tag given twice.
 #[test]
 fn tags_apart() {
-    let bits: Vec<u32> = (0..32).map(|k| 1 << k).chain([0]).collect();
-    let inverse: Vec<u32> = bits.iter().map(|tag| !tag).collect();
-    let rows: Vec<u32> = (0..600).collect();
-    let back: Vec<u32> = (0..600).map(|i| u32::MAX - i).collect();
-    let wide: Vec<u32> = (0..4_096).map(|i| i << 20 | i >> 6).collect();
-    let steps: Vec<u32> = (0..8).flat_map(|k| (0..8).map(move |i| i << (3 * k + 5) | 3)).collect();
+    let bits: Vec<Tag> = (0..Tag::BITS).map(|k| 1 << k).chain([0]).collect();
+    let inverse: Vec<Tag> = bits.iter().map(|tag| !tag).collect();
+    let rows: Vec<Tag> = (0..600).collect();
+    let back: Vec<Tag> = (0..600).map(|i| MOST_TAG - i).collect();
+    let wide: Vec<Tag> = (0..MOST_SAMPLES as Tag).map(|i| i << 20 | i >> 6).collect();
+    let steps: Vec<Tag> = (0..8).flat_map(|k| (0..8).map(move |i| i << (3 * k + 5) | 3)).collect();
     for mut tags in [bits, inverse, rows, back, wide, steps] {
-        let table = |tags: &[u32]| {
+        let table = |tags: &[Tag]| {
             let samples: Vec<Sample> = tags.iter().map(|&tag| Sample { tag, codes: [9; 3] }).collect();
-            exact(&samples, 256).tables()
+            exact(&samples, MOST_BUCKET).tables()
         };
         tags.sort();
         tags.dedup();
@@ -253,7 +252,7 @@ fn tags_apart() {
 #[test]
 fn codes_past_the_end() {
     small_sets().iter().for_each(|samples| damage::codes_past_the_end(samples, &mut refuse));
-    check_sound(&exact(&tagged([[65_535; 3]; 2]), 256));
+    check_sound(&exact(&tagged([[MOST_CODE; 3]; 2]), MOST_BUCKET));
 }
 
 #[test]
@@ -267,7 +266,8 @@ fn tables_mixed() {
 }
 
 fn random_edits(tries: usize, mut state: u64) {
-    let tables: Vec<Both> = each(small_sets()).map(|bin| Both::of(&longer(&bin, 5, 11))).collect();
+    let row_more = |bin: Bin| Both::of(&longer(&bin, SAMPLE_ROW, OCTANT_ROW));
+    let tables: Vec<Both> = each(small_sets()).map(row_more).collect();
     for _ in 0..tries {
         let both = tables[below(tables.len(), &mut state)].clone();
         damage::edited(both, &mut state, &mut look);
@@ -293,12 +293,12 @@ fn sequences(runs: usize, calls: usize, mut state: u64) {
     let state = &mut state;
     for _ in 0..runs {
         let (rows, octants) = (1 + below(60, state), 1 + below(200, state));
-        let (more, further) = (below(7, state), below(13, state));
-        let bucket = any_of(&BUCKETS, state);
-        let mut bin = straight_scan::start(2 + 5 * rows + more, 1 + 11 * octants + further, bucket).unwrap();
-        let width = any_of(&[2, 300, 65_536], state);
+        let (more, further) = (below(SAMPLE_ROW + 2, state), below(OCTANT_ROW + 2, state));
+        let (samples, octants) = (sample_words(rows) + more, octant_words(octants) + further);
+        let mut bin = straight_scan::start(samples, octants, any_of(&BUCKETS, state)).unwrap();
+        let width = any_of(&[2, 300, CODE_COUNT], state);
         for _ in 0..calls {
-            let tag = below(80, state) as u32;
+            let tag = below(80, state) as Tag;
             let codes = [0; 3].map(|_: u32| below(width, state) as u32);
             bin.call(&if below(4, state) == 0 { Call::Remove(tag) } else { Call::Add(tag, codes) });
             check_sound(&bin);
@@ -316,16 +316,18 @@ fn clears() {
     let mut state = 101;
     for n in 0..=24 {
         for m in 0..=26 {
-            for bucket in [0, 1, 2, 3, 16, 255, 256, 257, 258, 1 << 16, 1 << 31, u32::MAX] {
+            let most = MOST_BUCKET;
+            for bucket in [0, 1, 2, 3, 16, most - 1, most, most + 1, most + 2, 1 << 16, 1 << 31, u32::MAX] {
                 let (samples, octants) = (any_words(n, &mut state), any_words(m, &mut state));
                 let number = clear(&samples, &octants, bucket);
-                let (short, bad) = (n < 2 || m < 1, !(1..=256).contains(&bucket));
+                let (short, bad) = (too_short(n, m), !(1..=MOST_BUCKET).contains(&bucket));
                 assert_eq!(number, if short { 1 } else { 3 * bad as u32 });
             }
         }
     }
-    for (n, m) in [(2 + 5 * 4_096, 1 + 11 * 69_632), (2 + 5 * 5_000, 2), (2, 1 + 11 * 500)] {
-        for bucket in [0, 1, 256, 257] {
+    let longest = (sample_words(MOST_SAMPLES), octant_words(MOST_OCTANTS));
+    for (n, m) in [longest, (sample_words(5_000), OCTANT_HEADER + 1), (SAMPLE_HEADER, octant_words(500))] {
+        for bucket in [0, 1, MOST_BUCKET, MOST_BUCKET + 1] {
             clear(&any_words(n, &mut state), &any_words(m, &mut state), bucket);
         }
     }
@@ -336,7 +338,7 @@ fn clears() {
 fn sets_cleared() {
     for bin in each(small_sets()) {
         let (samples, octants) = longer(&bin, 3, 3).tables();
-        for bucket in (0..=3).chain(254..=258) {
+        for bucket in (0..=3).chain(MOST_BUCKET - 2..=MOST_BUCKET + 2) {
             clear(&samples, &octants, bucket);
         }
     }
@@ -347,12 +349,12 @@ fn sets_cleared() {
 /// Case h of document 01: tables that are one word too short for the tree.
 #[test]
 fn cases() {
-    let samples = tagged([[0; 3], [65_535; 3], [0; 3]]);
+    let samples = tagged([[0; 3], [MOST_CODE; 3], [0; 3]]);
     let bin = exact(&samples, 1);
     assert_eq!(bin.octant_words, 199);
     check_sound(&bin);
     let (samples, octants) = bin.tables();
-    assert!(!check(&samples, &octants[..198]));
+    assert!(!check(&samples, &octants[..octants.len() - 1]));
 }
 
 #[test]
@@ -360,8 +362,8 @@ fn cases() {
 fn every_word_of_larger_sets_changed() {
     change_some_words(&exact(&tagged(scattered(300, 51)), 2), 1);
     change_some_words(&exact(&tagged(clustered(300, 3, 20, 54)), 1), 1);
-    change_some_words(&exact(&tagged(scattered(4_096, 53)), 16), 29);
-    change_some_words(&exact(&tagged(clustered(4_096, 2, 12, 55)), 256), 97);
+    change_some_words(&exact(&tagged(scattered(MOST_SAMPLES, 53)), 16), 29);
+    change_some_words(&exact(&tagged(clustered(MOST_SAMPLES, 2, 12, 55)), MOST_BUCKET), 97);
 }
 
 #[test]

@@ -14,13 +14,15 @@ mod calls;
 mod compared;
 mod lent;
 mod lines;
+mod numbers;
 mod random;
 mod sets;
 
 use calls::*;
-use hubeltxa::{HEADER_LENGTH as HEADER, LINE_LENGTH as LINE};
 use lines::edits::{edit, edited};
 use lines::*;
+use numbers::walklist::*;
+use numbers::*;
 use random::*;
 use sets::*;
 use std::fs::File;
@@ -32,15 +34,6 @@ use straight_scan::{Bin, Call, Codes, Sample};
 
 /// Where the program stands, from the folder of this crate.
 const DEFAULT: &str = "../target/bin/walklist";
-
-/// What the program reads at most, in bytes.
-const MOST_READ: usize = 32_768;
-
-/// The sample rows and the octant rows that it has, and the most lines of a sheet that it reads whole: 15 + 62 * 528
-/// is 32,751.
-const ROWS: usize = 512;
-const OCTANTS: usize = 1_489;
-const MOST_LINES: usize = 528;
 
 /// No run should take nearly as long.
 const LONGEST: Duration = Duration::from_secs(20);
@@ -163,7 +156,7 @@ impl Compared {
 
 /// The example of document 01.
 fn example() -> Vec<u8> {
-    let samples = [(7, 0), (8, 65_535), (9, 0)].map(|(tag, code)| Sample { tag, codes: [code; 3] });
+    let samples = [(7, 0), (8, MOST_CODE), (9, 0)].map(|(tag, code)| Sample { tag, codes: [code; 3] });
     sheet(&samples)
 }
 
@@ -181,14 +174,14 @@ fn plain_sheet(lines: usize, seed: u64) -> Vec<u8> {
 /// Sheets of each length up to the most lines that are read, and longer ones.
 fn lengths(compared: &mut Compared) {
     compared.expect(11, b"");
-    for lines in (0..20).chain([64, 100, 511, ROWS]) {
+    for lines in (0..20).chain([64, 100, ROWS - 1, ROWS]) {
         compared.expect(0, &plain_sheet(lines, lines as u64));
     }
-    compared.expect(0, &sheet(&tagged([[300, 65_535, 0]; ROWS])));
+    compared.expect(0, &sheet(&tagged([[300, MOST_CODE, 0]; ROWS])));
     for lines in ROWS + 1..=MOST_LINES {
         compared.expect(6, &plain_sheet(lines, 1));
     }
-    for lines in [MOST_LINES + 1, 600, 1_057, 1_058, 4_096, 20_000] {
+    for lines in [MOST_LINES + 1, 600, 2 * MOST_LINES + 1, 2 * MOST_LINES + 2, MOST_SAMPLES, 20_000] {
         compared.expect(11, &plain_sheet(lines, 2));
     }
 }
@@ -204,7 +197,7 @@ fn padded(compared: &mut Compared) {
                 compared.expect(11, &longer);
             }
         }
-        for more in 1..=LINE {
+        for more in 1..=LINE_LENGTH {
             let follows = line_of(7, [1, 2, 3], "A001");
             compared.expect(11, &[&sheet, &follows[..more]].concat());
         }
@@ -216,20 +209,21 @@ fn padded(compared: &mut Compared) {
 /// Inputs of the greatest length, and one byte less and more, that are no sheets but start as one.
 fn cut_off(compared: &mut Compared) {
     let long = plain_sheet(MOST_LINES + 1, 4);
-    for length in [HEADER - 1, HEADER, HEADER + 1, MOST_READ - 18, MOST_READ - 17, MOST_READ - 1, MOST_READ] {
+    let (header, whole) = (HEADER_LENGTH, sheet_length(MOST_LINES));
+    for length in [header - 1, header, header + 1, whole - 1, whole, MOST_READ - 1, MOST_READ] {
         compared.expect(11, &long[..length]);
     }
-    // As long as a sheet of 528 lines, which it says it is: the lines past 512 are refused.
+    // As long as a sheet of the most lines, which it says it is: the lines past the rows are refused.
     let mut recounted = long;
-    recounted[..HEADER].copy_from_slice(&sheet_of(MOST_LINES, &[]));
-    compared.expect(6, &recounted[..HEADER + LINE * MOST_LINES]);
+    recounted[..header].copy_from_slice(&sheet_of(MOST_LINES, &[]));
+    compared.expect(6, &recounted[..whole]);
     compared.expect(11, &recounted[..MOST_READ]);
     compared.expect(11, &recounted);
 }
 
 /// The set before the load.
 fn empty() -> Bin {
-    straight_scan::start(2 + 5 * ROWS, 1 + 11 * OCTANTS, 2).unwrap()
+    straight_scan::start(sample_words(ROWS), octant_words(OCTANTS), 2).unwrap()
 }
 
 /// Octant rows that run out before the sample rows, at the first line that finds too few.
@@ -316,12 +310,14 @@ fn random_sheets(compared: &mut Compared, runs: usize, mut state: u64) {
 fn ways(compared: &mut Compared) {
     let long = plain_sheet(MOST_LINES + 100, 5);
     for sheet in [example(), plain_sheet(10, 6), vec![], example()[..100].to_vec()] {
-        [1, 7, 61, 62, 77].into_iter().for_each(|size| _ = compared.by(Way::Pieces(size), &sheet));
+        let sizes = [1, 7, LINE_LENGTH - 1, LINE_LENGTH, sheet_length(1)];
+        sizes.into_iter().for_each(|size| _ = compared.by(Way::Pieces(size), &sheet));
         compared.by(Way::File, &sheet);
     }
     let cut = [ROWS, MOST_LINES].map(|lines| plain_sheet(lines, 6));
     for sheet in cut.iter().chain([&long, &long[..MOST_READ].to_vec(), &long[..MOST_READ + 1].to_vec()]) {
-        [61, 512, 4_095, 4_096, 32_767].into_iter().for_each(|size| _ = compared.by(Way::Pieces(size), sheet));
+        let sizes = [LINE_LENGTH - 1, 512, 4_095, 4_096, MOST_READ - 1];
+        sizes.into_iter().for_each(|size| _ = compared.by(Way::Pieces(size), sheet));
         compared.by(Way::File, sheet);
     }
 }
@@ -329,7 +325,8 @@ fn ways(compared: &mut Compared) {
 #[test]
 fn as_the_straight_scan() {
     let mut compared = Compared::new();
-    assert_eq!(straight_scan::walklist(&example()), "         7\n         9\n         8\n");
+    let printed = [7, 9, 8].map(|tag| format!("{tag:>TAG_COLUMNS$}\n")).concat();
+    assert_eq!(straight_scan::walklist(&example()), printed);
     compared.expect(0, &example());
     lengths(&mut compared);
     padded(&mut compared);

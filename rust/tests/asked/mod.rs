@@ -2,17 +2,9 @@
 
 #![allow(dead_code)]
 
+use crate::numbers::*;
 use crate::random::*;
-use crate::sets::MOST;
 use crate::straight_scan::{distance, Codes, Gesture, Sample};
-
-/// The greatest code, and the greatest radius as a code.
-pub const LAST: u32 = 65_535;
-pub const LARGEST: u32 = 131_071;
-
-pub fn float(code: u32) -> f32 {
-    code as f32 / 65_536.0
-}
 
 pub fn ball(centre: Codes, radius: u32) -> Gesture {
     Gesture::Ball { centre: centre.map(float), radius: float(radius) }
@@ -34,13 +26,13 @@ pub fn beside(codes: Codes) -> Vec<Codes> {
         codes
     };
     let all = (0..3).flat_map(|channel| [off(channel, false), off(channel, true)]).chain([codes]);
-    all.filter(|codes| codes.iter().all(|&code| code <= LAST)).collect()
+    all.filter(|codes| codes.iter().all(|&code| code <= MOST_CODE)).collect()
 }
 
 /// Codes on both sides of the planes between octants.
 pub fn plane_codes() -> Vec<u32> {
     let powers = (0..16).flat_map(|j| [(1 << j) - 1, 1 << j, (1 << j) + 1]);
-    powers.chain([16_383, 16_384, 49_151, 49_152, LAST - 1, LAST]).collect()
+    powers.chain([16_383, 16_384, 49_151, 49_152, MOST_CODE - 1, MOST_CODE]).collect()
 }
 
 /// The floor and the ceiling of the root of a squared distance, and one less and one more: where it is a square, the
@@ -55,13 +47,13 @@ pub fn radii_at(d2: u64) -> Vec<u32> {
     }
     let ceiling = floor + (floor * floor < d2) as u64;
     let all = [floor.wrapping_sub(1), floor, ceiling, ceiling + 1];
-    all.into_iter().filter(|&radius| radius <= LARGEST as u64).map(|radius| radius as u32).collect()
+    all.into_iter().filter(|&radius| radius <= MOST_RADIUS as u64).map(|radius| radius as u32).collect()
 }
 
 /// Radii at the distance of each sample from a centre, and the usual ones. 113,510 is the first that reaches from
 /// corner to corner.
 pub fn radii(samples: &[Sample], centre: Codes) -> Vec<u32> {
-    let usual = [0, 1, 2, 65_535, 65_536, 113_509, 113_510, LARGEST - 1, LARGEST];
+    let usual = [0, 1, 2, MOST_CODE, MOST_CODE + 1, 113_509, 113_510, MOST_RADIUS - 1, MOST_RADIUS];
     let distances = samples.iter().flat_map(|sample| radii_at(distance(sample.codes, centre)));
     let mut all: Vec<u32> = distances.chain(usual).collect();
     all.sort();
@@ -78,7 +70,7 @@ pub fn centres(samples: &[Sample]) -> Vec<Codes> {
 
 /// Centres on the planes between octants: in all channels, and in each with the others a sample's.
 pub fn centres_on_planes(samples: &[Sample]) -> Vec<Codes> {
-    let sample = samples.first().map_or([LAST, 0, 32_768], |sample| sample.codes);
+    let sample = samples.first().map_or([MOST_CODE, 0, 32_768], |sample| sample.codes);
     let in_one = |code: u32| {
         let with = move |channel: usize| {
             let mut codes = sample;
@@ -93,16 +85,16 @@ pub fn centres_on_planes(samples: &[Sample]) -> Vec<Codes> {
 /// Boxes that end at a sample, or one code short of it, on each side: the other sides are everything, the sample
 /// itself, or a code beside it.
 pub fn boxes_at(codes: Codes) -> Vec<(Codes, Codes)> {
-    let around = |by: u32| (codes.map(|code| code.saturating_sub(by)), codes.map(|code| LAST.min(code + by)));
+    let around = |by: u32| (codes.map(|code| code.saturating_sub(by)), codes.map(|code| MOST_CODE.min(code + by)));
     let mut all = vec![];
-    for (low, high) in [([0; 3], [LAST; 3]), (codes, codes), around(1), around(300)] {
+    for (low, high) in [([0; 3], [MOST_CODE; 3]), (codes, codes), around(1), around(300)] {
         all.push((low, high));
         for channel in 0..3 {
             let code = codes[channel];
             let mut side = |from: u32, to: u32| {
                 let (mut low, mut high) = (low, high);
                 (low[channel], high[channel]) = (from, to);
-                if from <= to && to <= LAST {
+                if from <= to && to <= MOST_CODE {
                     all.push((low, high));
                 }
             };
@@ -126,7 +118,7 @@ pub fn octant_boxes(codes: Codes) -> Vec<(Codes, Codes)> {
                 let (mut low, mut high) = (low, high);
                 low[channel] = low[channel].wrapping_add(down);
                 high[channel] = high[channel].wrapping_add(up);
-                if low[channel] <= LAST && high[channel] <= LAST {
+                if low[channel] <= MOST_CODE && high[channel] <= MOST_CODE {
                     all.push((low, high));
                 }
             }
@@ -137,12 +129,11 @@ pub fn octant_boxes(codes: Codes) -> Vec<(Codes, Codes)> {
 
 /// The codes in a row that there is, clipped to codes; any where there is none.
 pub fn row_codes(samples: &[u32], state: &mut u64) -> Codes {
-    match samples.len().saturating_sub(2) / 5 {
-        0 => [0; 3].map(|_: u32| below(65_536, state) as u32),
+    match sample_rows(samples.len()) {
+        0 => [0; 3].map(|_: u32| below(CODE_COUNT, state) as u32),
         rows => {
-            let used = (samples[0] as usize).clamp(1, rows.min(MOST));
-            let at = 2 + 5 * below(used, state);
-            [1, 2, 3].map(|field| samples[at + field] & LAST)
+            let used = sample_count(samples).clamp(1, rows);
+            codes_of(samples, below(used, state)).map(|code| code & MOST_CODE)
         }
     }
 }
@@ -156,9 +147,9 @@ pub fn any_codes(samples: &[u32], state: &mut u64) -> Codes {
             let near = beside(codes);
             any_of(&near, state)
         }
-        2 => codes.map(|code| (code + below(4_000, state) as u32).saturating_sub(2_000).min(LAST)),
+        2 => codes.map(|code| (code + below(4_000, state) as u32).saturating_sub(2_000).min(MOST_CODE)),
         3 => [0; 3].map(|_: u32| any_of(&plane_codes(), state)),
-        _ => [0; 3].map(|_: u32| below(65_536, state) as u32),
+        _ => [0; 3].map(|_: u32| below(CODE_COUNT, state) as u32),
     }
 }
 
@@ -166,9 +157,9 @@ pub fn any_codes(samples: &[u32], state: &mut u64) -> Codes {
 fn any_region(samples: &[u32], state: &mut u64) -> (Codes, u32) {
     let centre = any_codes(samples, state);
     let radius = match below(6, state) {
-        0 => any_of(&[0, 1, 65_536, 113_509, 113_510, LARGEST], state),
+        0 => any_of(&[0, 1, MOST_CODE + 1, 113_509, 113_510, MOST_RADIUS], state),
         1 => 1 << below(17, state),
-        2 => below(LARGEST as usize, state) as u32,
+        2 => below(MOST_RADIUS as usize, state) as u32,
         3 => below(3_000, state) as u32,
         _ => any_of(&radii_at(distance(row_codes(samples, state), centre)), state),
     };
@@ -188,7 +179,7 @@ pub fn any_nearest(samples: &[u32], state: &mut u64) -> Gesture {
 pub fn any_box(samples: &[u32], state: &mut u64) -> Gesture {
     let (one, other) = (any_codes(samples, state), any_codes(samples, state));
     match below(5, state) {
-        0 => box_of([0; 3], [LAST; 3]),
+        0 => box_of([0; 3], [MOST_CODE; 3]),
         1 => {
             let (low, high) = any_of(&boxes_at(one), state);
             box_of(low, high)
@@ -203,13 +194,14 @@ pub fn any_box(samples: &[u32], state: &mut u64) -> Gesture {
 
 /// Floats that are no channel, and those that are no radius.
 pub fn bad_channels() -> Vec<f32> {
-    let bits = [0x3F80_0000, 0x3F80_0001, 0x4000_0000, 0x7F7F_FFFF, 0x7F80_0000, 0x7F80_0001, 0x7FC0_0000, 0x7FFF_FFFF];
+    let great = [BAD_CHANNEL, BAD_CHANNEL + 1, BAD_RADIUS, 0x7F7F_FFFF, 0x7F80_0000];
+    let nans = [0x7F80_0001, 0x7FC0_0000, 0x7FFF_FFFF];
     let negative = [0x8000_0001, 0xB780_0000, 0xBF00_0000, 0xBF80_0000, 0xFF80_0000, 0xFF80_0001, 0xFFC0_0000];
-    bits.into_iter().chain(negative).map(f32::from_bits).collect()
+    great.into_iter().chain(nans).chain(negative).map(f32::from_bits).collect()
 }
 
 pub fn bad_radii() -> Vec<f32> {
-    bad_channels().into_iter().filter(|&v| !(1.0..2.0).contains(&v)).chain([f32::from_bits(0x4000_0001)]).collect()
+    bad_channels().into_iter().filter(|&v| !good_radius(v)).chain([f32::from_bits(BAD_RADIUS + 1)]).collect()
 }
 
 /// The same query with one float in place of another: 0 to 3 of a ball or of nearest, 0 to 5 of a box.

@@ -4,16 +4,13 @@
 
 use crate::compared::Tables;
 use crate::lines::*;
+use crate::numbers::*;
 use crate::random::*;
 use crate::sets::*;
 use crate::straight_scan::{Bin, Call, Codes, Sample};
-use hubeltxa::HEADER_LENGTH as HEADER;
 
 /// The bucket sizes of these tests.
-pub const SIZES: [u32; 5] = [1, 2, 16, 255, 256];
-
-/// The longest name.
-pub const LONG_NAME: &str = "!2345678901234567890123456789012";
+pub const SIZES: [u32; 5] = [1, 2, 16, MOST_BUCKET - 1, MOST_BUCKET];
 
 pub fn line(sample: Sample) -> Vec<u8> {
     line_of(sample.tag, sample.codes, "A001")
@@ -22,6 +19,12 @@ pub fn line(sample: Sample) -> Vec<u8> {
 /// A good sheet of samples.
 pub fn sheet(samples: &[Sample]) -> Vec<u8> {
     good_sheet(&samples.iter().map(|&sample| line(sample)).collect::<Vec<_>>())
+}
+
+/// Texts that are no number up to the greatest: over it by one, the greatest that fits the columns, and these.
+fn bad_numbers(most: u128, columns: usize, others: &[&str]) -> Vec<String> {
+    let over = [(most + 1).to_string(), "9".repeat(columns)];
+    over.into_iter().chain(others.iter().map(|text| text.to_string())).collect()
 }
 
 /// Lines that are not good, each by one thing: a number out of range or not so formed, a name, what stands
@@ -38,11 +41,14 @@ pub fn bad_lines(sample: Sample) -> Vec<Vec<u8>> {
         texts[channel] = text.to_string();
         line_of(tag, texts, "A001")
     };
-    let tags = ["4294967296", "9999999999", "007", "", "-7", "7 "].map(|text| line_of(text, codes, "A001"));
-    let channels = (0..3).flat_map(|h| ["65536", "999999", "01", "", "1 "].map(|text| code(h, text)));
+    let tag_texts = bad_numbers(MOST_TAG.into(), TAG_COLUMNS, &["007", "", "-7", "7 "]);
+    let code_texts = bad_numbers(MOST_CODE.into(), CODE_COLUMNS, &["01", "", "1 "]);
+    let tags = tag_texts.iter().map(|text| line_of(text, codes, "A001"));
+    let channels = (0..3).flat_map(|h| code_texts.iter().map(move |text| (h, text))).map(|(h, text)| code(h, text));
     let names = ["", "A 1", " A1", "A\x7F", "A\t"].map(|name| line_of(tag, codes, name));
-    let between = [with(28, b'.'), with(61, b' '), with(61, b'\r'), with(60, b'!'), with(0, b'+')];
-    tags.into_iter().chain(channels).chain(names).chain(between).collect()
+    let (blank, last, newline) = (NAME_START - 1, LINE_LENGTH - 2, LINE_LENGTH - 1);
+    let between = [with(blank, b'.'), with(newline, b' '), with(newline, b'\r'), with(last, b'!'), with(0, b'+')];
+    tags.chain(channels).chain(names).chain(between).collect()
 }
 
 /// Colours of one kind, at most so many: anywhere, around a few, all equal, on the planes between octants, in pairs
@@ -53,7 +59,7 @@ pub fn pool(most: usize, state: &mut u64) -> Vec<Codes> {
         0 => scattered(most, seed),
         1 => clustered(most, 3, 40, seed),
         2 => scattered(1, seed),
-        3 => grid(&[0, 16_383, 16_384, 32_767, 32_768, 65_535]),
+        3 => grid(&[0, 16_383, 16_384, 32_767, 32_768, MOST_CODE]),
         4 => close_pairs(most / 10, seed),
         _ => clustered(most, 2, 3, seed),
     }
@@ -64,17 +70,22 @@ pub fn any_set(samples: usize, colours: &[Codes], more_rows: usize, more_octants
     let samples = tagged((0..samples).map(|_| any_of(colours, state)));
     let bin = exact(&samples, any_of(&SIZES, state));
     let more = |rows: usize, width: usize, state: &mut u64| width * below(rows + 1, state) + below(width, state);
-    let (s, o) = (more(more_rows, 5, state), more(more_octants, 11, state));
+    let (s, o) = (more(more_rows, SAMPLE_ROW, state), more(more_octants, OCTANT_ROW, state));
     Tables::of(longer(&bin, s, o))
 }
 
+/// The i-th of tags that are the same but for their highest bits.
+pub fn high_tag(i: usize) -> Tag {
+    (i as Tag) << (Tag::BITS - MOST_SAMPLES.ilog2())
+}
+
 /// A tag that is not in the set.
-pub fn new_tag(bin: &Bin, state: &mut u64) -> u32 {
+pub fn new_tag(bin: &Bin, state: &mut u64) -> Tag {
     let tag = match below(5, state) {
-        0 => below(100, state) as u32,
-        1 => any_of(&[0, 1, 1 << 31, u32::MAX - 1, u32::MAX], state),
-        2 => (below(MOST, state) as u32) << 20, // the same but for the highest digits
-        _ => random(state) as u32,
+        0 => below(100, state) as Tag,
+        1 => any_of(&[0, 1, 1 << (Tag::BITS - 1), MOST_TAG - 1, MOST_TAG], state),
+        2 => high_tag(below(MOST_SAMPLES, state)),
+        _ => random(state) as Tag,
     };
     if bin.samples.iter().any(|sample| sample.tag == tag) {
         return new_tag(bin, state);
@@ -83,9 +94,9 @@ pub fn new_tag(bin: &Bin, state: &mut u64) -> u32 {
 }
 
 /// A tag of the set; any where it is empty.
-pub fn known_tag(bin: &Bin, state: &mut u64) -> u32 {
+pub fn known_tag(bin: &Bin, state: &mut u64) -> Tag {
     match bin.samples.len() {
-        0 => random(state) as u32,
+        0 => random(state) as Tag,
         n => bin.samples[below(n, state)].tag,
     }
 }
@@ -111,7 +122,7 @@ pub fn any_sheet(bin: &Bin, colours: &[Codes], most_lines: usize, state: &mut u6
     }
     let mut sheet = good_sheet(&lines);
     match below(32, state) {
-        0 => sheet[below(HEADER, state)] = random(state) as u8,
+        0 => sheet[below(HEADER_LENGTH, state)] = random(state) as u8,
         1 => _ = sheet.pop(),
         2 => sheet.push(b'\n'),
         3 => sheet = sheet_of(n + 1, &lines),
@@ -122,7 +133,7 @@ pub fn any_sheet(bin: &Bin, colours: &[Codes], most_lines: usize, state: &mut u6
 
 pub fn any_call(bin: &Bin, colours: &[Codes], most_lines: usize, growing: bool, state: &mut u64) -> Call {
     if below(80, state) == 0 {
-        return Call::Clear(any_of(&[0, 1, 2, 16, 255, 256, 257], state));
+        return Call::Clear(any_of(&[0, 1, 2, 16, MOST_BUCKET - 1, MOST_BUCKET, MOST_BUCKET + 1], state));
     }
     let seldom = below(8, state) == 0;
     let (removes, loads) = if growing { (3, 8) } else { (11, 12) };
@@ -133,7 +144,7 @@ pub fn any_call(bin: &Bin, colours: &[Codes], most_lines: usize, growing: bool, 
         _ => {
             let mut codes = any_of(colours, state);
             if below(16, state) == 0 {
-                codes[below(3, state)] = any_of(&[65_536, 1 << 31, u32::MAX], state);
+                codes[below(3, state)] = any_of(&[MOST_CODE + 1, 1 << 31, u32::MAX], state);
             }
             let tag = if seldom { known_tag(bin, state) } else { new_tag(bin, state) };
             Call::Add(tag, codes)

@@ -7,6 +7,7 @@ pub mod check;
 pub mod query;
 
 use crate::lent::Lent;
+use crate::numbers::*;
 use crate::sets::*;
 use crate::straight_scan::{self, Bin, Call, Gesture, Sample};
 use hubeltxa::{lent, raw, Refusal, RefusedLoad};
@@ -33,15 +34,15 @@ impl Tables {
 
     /// Any words.
     pub fn of_words(samples: &[u32], octants: &[u32]) -> Self {
-        let short = samples.len() < 2 || octants.is_empty();
+        let short = too_short(samples.len(), octants.len());
         let set = straight_scan::bin_of(samples, octants).ok_or(if short { 1 } else { 2 });
         Tables { samples: samples.to_vec(), octants: octants.to_vec(), set }
     }
 
     /// The tables of the same set with so many rows.
     pub fn with_rows(&self, sample_rows: usize, octant_rows: usize) -> Self {
-        let words = |bin: Bin| Bin { sample_words: 2 + 5 * sample_rows, octant_words: 1 + 11 * octant_rows, ..bin };
-        Tables::of(words(self.set.clone().unwrap()))
+        let (sample_words, octant_words) = (sample_words(sample_rows), octant_words(octant_rows));
+        Tables::of(Bin { sample_words, octant_words, ..self.set.clone().unwrap() })
     }
 
     /// What the straight scan answers; the tables become those that it leaves.
@@ -70,7 +71,7 @@ impl Tables {
 /// Each of the sets with each bucket size, in tables just long enough and in longer ones.
 pub fn each(sets: Vec<Vec<Sample>>) -> impl Iterator<Item = Tables> {
     let sized = |samples: Vec<Sample>| BUCKETS.map(|bucket| exact(&samples, bucket));
-    sets.into_iter().flat_map(sized).flat_map(|bin| [longer(&bin, 5 + 3, 11 + 7), bin]).map(Tables::of)
+    sets.into_iter().flat_map(sized).flat_map(|bin| [with_a_row_more(&bin), bin]).map(Tables::of)
 }
 
 pub fn samples_of(tables: &Tables) -> Vec<Sample> {

@@ -2,13 +2,14 @@
 
 use super::{Compared, Tables};
 use crate::lent::Lent;
-use crate::sets::shown;
-use crate::straight_scan::{self, Answer, Bin, Call, Gesture};
+use crate::numbers::*;
+use crate::sets::{exact, shown};
+use crate::straight_scan::{Answer, Bin, Call, Gesture};
 use hubeltxa::{lent as wrapper, raw, Listed, Nearest, Refusal};
 
 /// A listing of so many words, no two equal.
-pub fn listing(length: usize) -> Vec<u32> {
-    (0..length as u32).map(|i| 0xC0DE_0000 + i).collect()
+pub fn listing(length: usize) -> Vec<Tag> {
+    (0..length as Tag).map(|i| 0xC0DE_0000 + i).collect()
 }
 
 /// An answer for a message: the reports, what is found, and the first words of the listing.
@@ -23,7 +24,7 @@ pub fn brief(answer: &Answer) -> String {
 
 /// The C function on these tables, with a listing on guarded words, and words for what is reported that hold something
 /// else and have neighbours.
-pub fn through_c(samples: &[u32], octants: &[u32], query: &Gesture, lent: &[u32]) -> Answer {
+pub fn through_c(samples: &[u32], octants: &[u32], query: &Gesture, lent: &[Tag]) -> Answer {
     const HELD: u32 = 0xA5A5_A5A5;
     const HELD_TWICE: u64 = 0xA5A5_A5A5_A5A5_A5A5;
     let (mut words, mut distances) = ([HELD; 7], [HELD_TWICE; 3]);
@@ -61,8 +62,8 @@ pub fn through_c(samples: &[u32], octants: &[u32], query: &Gesture, lent: &[u32]
 /// The answer that the wrapper gives of a ball or a box: its reports and the whole listing as left, of which the tags
 /// are the first part.
 pub fn listed(
-    mut listing: Vec<u32>,
-    ask: impl for<'a> FnOnce(&'a mut Vec<u32>) -> Result<Listed<'a>, Refusal>,
+    mut listing: Vec<Tag>,
+    ask: impl for<'a> FnOnce(&'a mut Vec<Tag>) -> Result<Listed<'a>, Refusal>,
 ) -> Answer {
     let reports = ask(&mut listing)
         .map(|Listed { tags, entered, measured }| (tags.as_ptr_range(), tags.len(), entered, measured));
@@ -76,7 +77,7 @@ pub fn listed(
 }
 
 /// The answer that the wrapper gives of nearest, with the listing, which it is not lent.
-pub fn found(listing: Vec<u32>, result: Result<Option<Nearest>, Refusal>) -> Answer {
+pub fn found(listing: Vec<Tag>, result: Result<Option<Nearest>, Refusal>) -> Answer {
     match result {
         Ok(Some(Nearest { tag, distance })) => Answer { found: true, tag, d2: distance, listing, ..Answer::default() },
         Ok(None) => Answer { listing, ..Answer::default() },
@@ -84,7 +85,7 @@ pub fn found(listing: Vec<u32>, result: Result<Option<Nearest>, Refusal>) -> Ans
     }
 }
 
-pub fn through_wrapper(samples: &[u32], octants: &[u32], query: &Gesture, lent: &[u32]) -> Answer {
+pub fn through_wrapper(samples: &[u32], octants: &[u32], query: &Gesture, lent: &[Tag]) -> Answer {
     let lent = lent.to_vec();
     match *query {
         Gesture::Ball { centre, radius } => {
@@ -96,7 +97,7 @@ pub fn through_wrapper(samples: &[u32], octants: &[u32], query: &Gesture, lent: 
 }
 
 /// The C function, on guarded words. Both tables must be left as they were.
-fn library(tables: &Tables, query: &Gesture, lent: &[u32]) -> Answer {
+fn library(tables: &Tables, query: &Gesture, lent: &[Tag]) -> Answer {
     let (mut samples, mut octants) = (Lent::new(&tables.samples), Lent::new(&tables.octants));
     let answer = through_c(samples.within(), octants.within(), query, lent);
     assert!(samples.left() == Some(&tables.samples), "the sample table or what is beside it is changed");
@@ -105,7 +106,7 @@ fn library(tables: &Tables, query: &Gesture, lent: &[u32]) -> Answer {
 }
 
 /// What the straight scan answers; nothing on tables that are not sound.
-fn scan(tables: &Tables, query: &Gesture, lent: &[u32]) -> Option<Answer> {
+fn scan(tables: &Tables, query: &Gesture, lent: &[Tag]) -> Option<Answer> {
     match &tables.set {
         Ok(set) => Some(set.pick(query, lent)),
         Err(1) => Some(Answer { number: 1, listing: lent.to_vec(), ..Answer::default() }),
@@ -116,15 +117,15 @@ fn scan(tables: &Tables, query: &Gesture, lent: &[u32]) -> Option<Answer> {
 /// The most samples and octants that a pass may go through: what the counts say, and the rows that there are.
 fn bounds(tables: &Tables) -> (usize, usize) {
     let (samples, octants) = (&tables.samples, &tables.octants);
-    let lengths = Bin { samples: vec![], bucket: 1, sample_words: samples.len(), octant_words: octants.len() };
-    (lengths.sample_rows().min(samples[0] as usize), lengths.octant_rows().min(octants[0] as usize))
+    let lengths = Bin { sample_words: samples.len(), octant_words: octants.len(), ..exact(&[], 1) };
+    (lengths.sample_rows().min(sample_count(samples)), lengths.octant_rows().min(octant_count(octants)))
 }
 
 /// Whether what is found has the tag of a row, and all is 0 where nothing is.
 fn safe_find(tables: &Tables, given: &Answer) -> bool {
-    let mut tags = tables.samples.iter().skip(2).step_by(5);
+    let samples = &tables.samples;
     if given.found {
-        tags.any(|&tag| tag == given.tag)
+        (0..sample_rows(samples.len())).any(|row| tag_of(samples, row) == Some(given.tag))
     } else {
         (given.tag, given.d2) == (0, 0)
     }
@@ -133,9 +134,8 @@ fn safe_find(tables: &Tables, given: &Answer) -> bool {
 /// What is promised on tables that are not sound: 9 exactly for a query that is not good, else 0 or 13, and 13 only for
 /// a listing that is shorter than the samples, of nearest never. Nothing written where a number is given, nothing past
 /// what is listed elsewhere, and no more listed, entered and measured than the counts say and there are rows.
-fn safe(tables: &Tables, query: &Gesture, lent: &[u32], given: &Answer) -> bool {
-    let none = straight_scan::start(2, 1, 1).unwrap();
-    let bad = none.pick(query, &[]).number == 9;
+fn safe(tables: &Tables, query: &Gesture, lent: &[Tag], given: &Answer) -> bool {
+    let bad = exact(&[], 1).pick(query, &[]).number == 9;
     let (samples, octants) = bounds(tables);
     let (listed, entered, measured) = (given.listed as usize, given.entered as usize, given.measured as usize);
     let nearest = matches!(query, Gesture::Near { .. });
@@ -156,7 +156,7 @@ fn safe(tables: &Tables, query: &Gesture, lent: &[u32], given: &Answer) -> bool 
 impl Compared {
     /// The one comparison of queries: each goes through it. On tables that are sound, or too short, the library's and
     /// the wrapper's answers and every word of the listing are the straight scan's; on others they are safe.
-    pub fn query(&mut self, tables: &Tables, query: &Gesture, lent: &[u32]) -> Answer {
+    pub fn query(&mut self, tables: &Tables, query: &Gesture, lent: &[Tag]) -> Answer {
         let message = || {
             let words = shown(&tables.samples, &tables.octants);
             format!("{query:?} with a listing of {} words on {words}", lent.len())

@@ -4,6 +4,7 @@
 
 #![allow(dead_code)]
 
+use crate::numbers::*;
 use crate::random::*;
 use crate::sets::*;
 use crate::straight_scan::{Bin, Sample};
@@ -44,11 +45,11 @@ impl Both {
 
     /// Where each row of a table starts.
     fn sample_rows(&self) -> Vec<usize> {
-        (0..self.words[0] as usize).map(|i| 2 + 5 * i).collect()
+        (0..self.show(|samples, _| sample_count(samples))).map(sample_words).collect()
     }
 
     fn octant_rows(&self) -> Vec<usize> {
-        (0..self.words[self.samples] as usize).map(|i| self.samples + 1 + 11 * i).collect()
+        (0..self.show(|_, octants| octant_count(octants))).map(|row| self.samples + octant_words(row)).collect()
     }
 }
 
@@ -64,7 +65,7 @@ pub fn words_changed(bin: &Bin, step: usize, see: &mut impl FnMut(&[u32], &[u32]
     for at in (0..both.words.len()).step_by(step) {
         let word = both.words[at];
         let (up, down) = (word.wrapping_add(1), word.wrapping_sub(1));
-        for wrong in [up, down, 0, u32::MAX, 65_536, word ^ 1 << 31] {
+        for wrong in [up, down, 0, u32::MAX, MOST_CODE + 1, word ^ 1 << 31] {
             if wrong != word {
                 both.with(at, wrong, &mut *see);
             }
@@ -75,7 +76,7 @@ pub fn words_changed(bin: &Bin, step: usize, see: &mut impl FnMut(&[u32], &[u32]
 /// A word that is not 0 in each place where 0 belongs: past the rows in use, and past the last row. Never
 /// sound.
 pub fn zeros_broken(bin: &Bin, see: &mut impl FnMut(&[u32], &[u32])) {
-    let mut both = Both::of(&longer(bin, 2 * 5 + 3, 2 * 11 + 7));
+    let mut both = Both::of(&longer(bin, 2 * SAMPLE_ROW + 3, 2 * OCTANT_ROW + 7));
     let tails = (bin.sample_words..both.samples).chain(both.samples + bin.octant_words..both.words.len());
     for at in tails {
         [1, 1 << 16, u32::MAX].iter().for_each(|&word| both.with(at, word, &mut *see));
@@ -91,10 +92,11 @@ pub fn tables_cut(bin: &Bin, see: &mut impl FnMut(&[u32], &[u32])) {
 
 /// Other counts of samples and of octants. Never sound.
 pub fn counts_changed(bin: &Bin, see: &mut impl FnMut(&[u32], &[u32])) {
-    let mut both = Both::of(&longer(bin, 5, 11));
-    for at in [0, both.samples] {
+    let mut both = Both::of(&longer(bin, SAMPLE_ROW, OCTANT_ROW));
+    let most = MOST_SAMPLES as u32;
+    for at in [SAMPLE_COUNT, both.samples + OCTANT_COUNT] {
         let count = both.words[at];
-        let others = (0..count + 4).chain([4_095, 4_096, 4_097, 1 << 16, 1 << 31, u32::MAX - 1, u32::MAX]);
+        let others = (0..count + 4).chain([most - 1, most, most + 1, 1 << 16, 1 << 31, u32::MAX - 1, u32::MAX]);
         others.filter(|&wrong| wrong != count).for_each(|wrong| both.with(at, wrong, &mut *see));
     }
 }
@@ -104,12 +106,12 @@ pub fn counts_changed(bin: &Bin, see: &mut impl FnMut(&[u32], &[u32])) {
 pub fn rows_swapped(bin: &Bin, see: &mut impl FnMut(&[u32], &[u32])) {
     let mut both = Both::of(bin);
     for (one, other) in pairs(&both.sample_rows()) {
-        both.swapped(one, other, 5, see);
-        both.swapped(one, other, 4, see);
-        both.swapped(one + 4, other + 4, 1, see);
+        both.swapped(one, other, SAMPLE_ROW, see);
+        both.swapped(one, other, NEXT, see);
+        both.swapped(one + NEXT, other + NEXT, 1, see);
     }
     for (one, other) in pairs(&both.octant_rows()).into_iter().step_by(3) {
-        both.swapped(one, other, 11, see);
+        both.swapped(one, other, OCTANT_ROW, see);
     }
 }
 
@@ -117,7 +119,7 @@ pub fn rows_swapped(bin: &Bin, see: &mut impl FnMut(&[u32], &[u32])) {
 pub fn children_swapped(bin: &Bin, see: &mut impl FnMut(&[u32], &[u32])) {
     let mut both = Both::of(bin);
     for row in both.octant_rows() {
-        let words: Vec<usize> = (row..row + 11).collect();
+        let words: Vec<usize> = (row..row + OCTANT_ROW).collect();
         pairs(&words).into_iter().for_each(|(one, other)| both.swapped(one, other, 1, see));
     }
 }
@@ -140,8 +142,8 @@ pub fn equal_tags(bin: &Bin, state: &mut u64, see: &mut impl FnMut(&[u32], &[u32
 /// sound.
 pub fn codes_past_the_end(samples: &[Sample], see: &mut impl FnMut(&[u32], &[u32])) {
     for (i, channel) in (0..samples.len()).flat_map(|i| [0, 1, 2].map(|h| (i, h))) {
-        for code in [65_536, 65_537, 1 << 17, 1 << 31, u32::MAX] {
-            let mut bin = exact(samples, 256);
+        for code in [MOST_CODE + 1, MOST_CODE + 2, 1 << 17, 1 << 31, u32::MAX] {
+            let mut bin = exact(samples, MOST_BUCKET);
             bin.samples[i].codes[channel] = code;
             Both::of(&bin).show(&mut *see);
         }
@@ -153,7 +155,7 @@ pub fn rows_left(bin: &Bin, see: &mut impl FnMut(&[u32], &[u32])) {
     let Some(n) = bin.samples.len().checked_sub(1) else { return };
     let before = Both::of(bin).words;
     let mut both = Both::of(&Bin { samples: bin.samples[..n].to_vec(), ..bin.clone() });
-    let row = 2 + 5 * n..7 + 5 * n;
+    let row = sample_words(n)..sample_words(n + 1);
     for at in row.clone().filter(|&at| before[at] != 0) {
         both.with(at, before[at], &mut *see);
     }
@@ -173,7 +175,7 @@ pub fn edited(mut both: Both, state: &mut u64, see: &mut impl FnMut(&[u32], &[u3
             3 => both.words.swap(at, from),
             4 => both.words[at] ^= 1 << below(32, state),
             _ => {
-                let size = any_of(&[2, 5, 11], state).min(n - at.max(from));
+                let size = any_of(&[2, SAMPLE_ROW, OCTANT_ROW], state).min(n - at.max(from));
                 both.words.copy_within(from..from + size, at);
             }
         }
@@ -184,7 +186,8 @@ pub fn edited(mut both: Both, state: &mut u64, see: &mut impl FnMut(&[u32], &[u3
 /// The sample table of one set with the octant table of another: other bucket sizes, other sets, the same
 /// samples in another sequence. Every step-th pair.
 pub fn mixed(bins: &[Bin], step: usize, see: &mut impl FnMut(&[u32], &[u32])) {
-    let same_length = |bin: &Bin| Bin { sample_words: 2 + 5 * 64, octant_words: 1 + 11 * 700, ..bin.clone() };
+    let same_length =
+        |bin: &Bin| Bin { sample_words: sample_words(64), octant_words: octant_words(700), ..bin.clone() };
     let tables: Vec<_> = bins.iter().map(|bin| same_length(bin).tables()).collect();
     for (i, (samples, _)) in tables.iter().enumerate() {
         tables.iter().skip(i % step).step_by(step).for_each(|(_, octants)| see(samples, octants));
@@ -198,11 +201,13 @@ pub fn mixed(bins: &[Bin], step: usize, see: &mut impl FnMut(&[u32], &[u32])) {
     }
 }
 
-/// Small numbers and random ones for words.
+/// Small numbers, ends of ranges and random numbers for words.
 pub fn any_words(length: usize, state: &mut u64) -> Vec<u32> {
+    const ENDS: [u32; 10] =
+        [0, 1, 2, 16, MOST_BUCKET, MOST_BUCKET + 1, MOST_SAMPLES as u32, MOST_CODE, MOST_CODE + 1, u32::MAX];
     let word = |state: &mut u64| match random(state) >> 62 {
         0 => random(state) as u32,
-        1 => any_of(&[0, 1, 2, 16, 256, 257, 4_096, 65_535, 65_536, u32::MAX], state),
+        1 => any_of(&ENDS, state),
         _ => below(4, state) as u32,
     };
     (0..length).map(|_| word(state)).collect()
@@ -212,7 +217,7 @@ pub fn any_words(length: usize, state: &mut u64) -> Vec<u32> {
 pub fn small(buckets: &[u32], step: usize, state: &mut u64, see: &mut impl FnMut(&[u32], &[u32])) {
     let bins = small_bins(buckets);
     for bin in bins.iter().filter(|bin| bin.octant_words < 800) {
-        words_changed(&longer(bin, 5 + 3, 11 + 7), step, see);
+        words_changed(&with_a_row_more(bin), step, see);
         rows_swapped(bin, see);
         children_swapped(bin, see);
         tables_cut(bin, see);
@@ -232,13 +237,13 @@ fn small_bins(buckets: &[u32]) -> Vec<Bin> {
     sets.iter().flat_map(|samples| buckets.iter().map(|&bucket| exact(samples, bucket))).collect()
 }
 
-/// Damage to tables of some hundreds of samples to 4,096; of the words, every step-th or so.
+/// Damage to tables of some hundreds of samples to as many as there can be; of the words, every step-th or so.
 pub fn large(step: usize, see: &mut impl FnMut(&[u32], &[u32])) {
     words_changed(&exact(&tagged(scattered(300, 23)), 2), step, see);
     words_changed(&exact(&tagged(clustered(1_000, 5, 300, 24)), 16), 2 * step + 1, see);
-    words_changed(&exact(&tagged(scattered(4_096, 25)), 16), 9 * step + 2, see);
-    words_changed(&exact(&tagged([[65_535; 3]; 4_096]), 256), 20 * step + 1, see);
-    equal_tags(&exact(&tagged(scattered(4_096, 26)), 16), &mut 27, see);
+    words_changed(&exact(&tagged(scattered(MOST_SAMPLES, 25)), 16), 9 * step + 2, see);
+    words_changed(&exact(&tagged([[MOST_CODE; 3]; MOST_SAMPLES]), MOST_BUCKET), 20 * step + 1, see);
+    equal_tags(&exact(&tagged(scattered(MOST_SAMPLES, 26)), 16), &mut 27, see);
 }
 
 /// So many times: a few edits at once to a small set's tables, and then any words, fewer than so many of each table.
@@ -249,7 +254,8 @@ pub fn edits(
     state: &mut u64,
     see: &mut impl FnMut(&[u32], &[u32]),
 ) {
-    let tables: Vec<Both> = small_bins(buckets).iter().map(|bin| Both::of(&longer(bin, 5, 11))).collect();
+    let bins = small_bins(buckets);
+    let tables: Vec<Both> = bins.iter().map(|bin| Both::of(&longer(bin, SAMPLE_ROW, OCTANT_ROW))).collect();
     for _ in 0..tries {
         edited(tables[below(tables.len(), state)].clone(), state, see);
         let (n, m) = (below(lengths.0, state), below(lengths.1, state));
@@ -292,21 +298,21 @@ pub fn pointing(
         let (next, child) = (POINTING[way % 9], POINTING[way / 9 % 9]);
         let (count, header) = (COUNTING[way / 81 % 5], COUNTING[way / 405]);
         let mut any = || below(1 << 40, state);
-        let mut samples = vec![header(sample_rows, any()) as u32, BUCKETS[any() % 4]];
+        let mut samples = sample_header(header(sample_rows, any()) as u32, BUCKETS[any() % 4]).to_vec();
         for row in 0..sample_rows {
             let code = |any: usize| match any % 50 {
                 0 => any as u32,
-                _ => any as u32 % 65_536,
+                _ => (any % CODE_COUNT) as u32,
             };
-            samples.extend([any() as u32, code(any()), code(any()), code(any())]);
-            samples.push(next(row, sample_rows, any()) as u32);
+            let (tag, codes) = (any() as Tag, [0; 3].map(|_| code(any())));
+            samples.extend(sample_row(tag, codes, next(row, sample_rows, any()) as u32));
         }
-        let mut octants = vec![header(octant_rows, any()) as u32];
+        let mut octants = octant_header(header(octant_rows, any()) as u32).to_vec();
         for row in 0..octant_rows {
-            octants.push(next(any() % sample_rows, sample_rows, any()) as u32);
-            octants.push(next(any() % sample_rows, sample_rows, any()) as u32);
-            octants.push(count(sample_rows, any()) as u32);
-            octants.extend((0..8).map(|_| child(row, octant_rows, any()) as u32));
+            let [first, last] = [0; 2].map(|_| next(any() % sample_rows, sample_rows, any()) as u32);
+            let (held, children) =
+                (count(sample_rows, any()) as u32, [0; 8].map(|_| child(row, octant_rows, any()) as u32));
+            octants.extend(octant_row(first, last, held, children));
         }
         see(&samples, &octants);
     }

@@ -5,6 +5,7 @@
 use crate::asked::*;
 use crate::calls::any_call;
 use crate::compared::query::listing;
+use crate::numbers::*;
 use crate::random::*;
 use crate::sets::*;
 use crate::straight_scan::{self, Answer, Bin, Call, Codes};
@@ -30,8 +31,7 @@ impl Scanned {
 
     /// The set; none where no clear was accepted.
     pub fn set(&self) -> Bin {
-        let none = Bin { samples: vec![], bucket: 1, sample_words: 2, octant_words: 1 };
-        self.set.clone().unwrap_or(none)
+        self.set.clone().unwrap_or_else(|_| exact(&[], 1))
     }
 
     /// What the straight scan answers. A call that is no clear finds its set, or tables that are too short.
@@ -86,22 +86,22 @@ pub fn any_of_seven(scanned: &Scanned, colours: &[Codes], most_lines: usize, gro
 /// Lengths of each kind, and how many lines a sheet has at most: rows of both that suffice, sample rows that run out,
 /// octant rows that run out, both of a set just so, lengths that hold one row or none, and lengths that are too short.
 pub fn any_lengths(kind: usize, colours: &[Codes], bucket: u32, state: &mut u64) -> (Lengths, usize) {
-    let words = |rows: usize, octants: usize, state: &mut u64| {
-        (2 + 5 * rows + below(5, state), 1 + 11 * octants + below(11, state))
-    };
     match kind % 6 {
-        0 => (words(200, 17 * 200, state), 20),
-        1 => (words(1 + below(25, state), 500, state), 6),
-        2 => (words(100, 1 + below(40, state), state), 6),
+        0 => (any_words_of(200, OCTANTS_A_SAMPLE * 200, state), 20),
+        1 => (any_words_of(1 + below(25, state), 500, state), 6),
+        2 => (any_words_of(100, 1 + below(40, state), state), 6),
         3 => {
             let samples = tagged((0..1 + below(60, state)).map(|_| any_of(colours, state)));
             let bin = exact(&samples, bucket);
             ((bin.sample_words, bin.octant_words), 8)
         }
-        4 => ((2 + below(10, state), 1 + below(22, state)), 2),
+        4 => {
+            let short = (SAMPLE_HEADER + below(2 * SAMPLE_ROW, state), OCTANT_HEADER + below(2 * OCTANT_ROW, state));
+            (short, 2)
+        }
         _ => {
             let long = (below(60, state), below(200, state));
-            let cut = [(below(2, state), long.1), (long.0, 0), (below(2, state), 0)];
+            let cut = [(below(SAMPLE_HEADER, state), long.1), (long.0, 0), (below(SAMPLE_HEADER, state), 0)];
             (any_of(&cut, state), 3)
         }
     }

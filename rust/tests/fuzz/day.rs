@@ -9,6 +9,7 @@ use crate::compared::query::listing;
 use crate::compared::Tables;
 use crate::damage::any_words;
 use crate::days::{any_lengths, Lengths};
+use crate::numbers::*;
 use crate::random::*;
 use crate::sets::*;
 use crate::straight_scan::{self, Bin, Call, Codes, Gesture};
@@ -38,16 +39,17 @@ fn any_tables(lengths: Lengths, state: &mut u64) -> Tables {
 
 /// As many samples as there can be, or nearly, in tables with a few words more.
 fn large_set(colours: &[Codes], state: &mut u64) -> Tables {
-    let samples = tagged((0..MOST - below(3, state)).map(|_| any_of(colours, state)));
-    let set = exact(&samples, any_of(&[16, 255, 256], state));
-    Tables::of(longer(&Bin { sample_words: 2 + 5 * MOST, ..set }, below(9, state), below(100, state)))
+    let samples = tagged((0..MOST_SAMPLES - below(3, state)).map(|_| any_of(colours, state)));
+    let set = exact(&samples, any_of(&[16, MOST_BUCKET - 1, MOST_BUCKET], state));
+    let set = Bin { sample_words: sample_words(MOST_SAMPLES), ..set };
+    Tables::of(longer(&set, below(9, state), below(100, state)))
 }
 
 impl Day {
     pub fn new(seed: u64) -> Self {
         let mut state = seed;
         let (kind, bucket) = (below(64, &mut state), any_of(&SIZES, &mut state));
-        let colours = pool(if kind == 0 { MOST } else { 300 }, &mut state);
+        let colours = pool(if kind == 0 { MOST_SAMPLES } else { 300 }, &mut state);
         let (tables, most_lines) = match kind {
             0 => (large_set(&colours, &mut state), 3),
             1..=12 => (any_set(below(60, &mut state), &colours, 20, 60, &mut state), 8),

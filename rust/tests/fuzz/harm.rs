@@ -3,6 +3,7 @@
 use crate::compared::Tables;
 use crate::damage::{self, any_words, Both};
 use crate::days::Words;
+use crate::numbers::*;
 use crate::random::*;
 use crate::sets::exact;
 use crate::straight_scan::Bin;
@@ -48,7 +49,7 @@ fn other_length((mut samples, mut octants): Words, state: &mut u64) -> Words {
     let more = 1 + below(30, state);
     match below(4, state) {
         0 => table.truncate(below(table.len() + 1, state)),
-        1 => table.truncate(below(3, state)),
+        1 => table.truncate(below(SAMPLE_HEADER + 1, state)),
         2 => table.extend(vec![0; more]),
         _ => table.extend(any_words(more, state)),
     }
@@ -68,7 +69,7 @@ fn edited((samples, octants): Words, state: &mut u64) -> Words {
 /// Words that point everywhere, in about as many rows.
 fn pointing((samples, octants): Words, state: &mut u64) -> Words {
     let mut left = (vec![], vec![]);
-    let rows = (1 + samples.len() / 5, 1 + octants.len() / 11);
+    let rows = (1 + samples.len() / SAMPLE_ROW, 1 + octants.len() / OCTANT_ROW);
     // Of 2,025 combinations, one.
     damage::pointing(rows.0, rows.1, 2_025, state, &mut |samples, octants| left = (samples.to_vec(), octants.to_vec()));
     left

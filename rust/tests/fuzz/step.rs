@@ -2,6 +2,7 @@
 
 use super::seen::{Plain, Seen};
 use crate::compared::{check, Tables};
+use crate::numbers::Tag;
 use crate::plain::{colour, sheet};
 use crate::straight_scan::{Call, Gesture};
 
@@ -9,11 +10,11 @@ use crate::straight_scan::{Call, Gesture};
 #[derive(Clone)]
 pub enum Step {
     Change(Call),
-    Query(Gesture, Vec<u32>),
+    Query(Gesture, Vec<Tag>),
     Check,
     Colour(colour::Call),
-    Line { tag: u32, codes: [u32; 3], name: Vec<u8>, lent: usize },
-    Name { sheet: Vec<u8>, tag: u32 },
+    Line { tag: Tag, codes: [u32; 3], name: Vec<u8>, lent: usize },
+    Name { sheet: Vec<u8>, tag: Tag },
 }
 
 /// The floats of a query, in their sequence.

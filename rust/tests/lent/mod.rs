@@ -2,6 +2,8 @@
 
 #![allow(dead_code)]
 
+use crate::numbers::*;
+
 /// What can be lent.
 pub trait Lendable: Copy + PartialEq + 'static {
     /// What stands before it and after it.
@@ -13,9 +15,18 @@ impl Lendable for u32 {
     const GUARD: &'static [u32] = &[0xA5A5_A5A5; 16];
 }
 
-/// A good line of a sheet: reading on would find it.
+/// A good line of a sheet, with tag 7, codes 1, 2, 3 and name G: reading on would find it.
 impl Lendable for u8 {
-    const GUARD: &'static [u8] = b"         7     1    22   333 GUARD                           \n";
+    const GUARD: &'static [u8] = &{
+        let mut line = [b' '; LINE_LENGTH];
+        line[TAG_COLUMNS - 1] = b'7';
+        line[code_start(1) - 1] = b'1';
+        line[code_start(2) - 1] = b'2';
+        line[code_start(3) - 1] = b'3';
+        line[NAME_START] = b'G';
+        line[LINE_LENGTH - 1] = b'\n';
+        line
+    };
 }
 
 pub struct Lent<T>(Vec<T>);

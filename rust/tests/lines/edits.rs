@@ -1,8 +1,8 @@
 //! Sheets altered at random: a byte, two bytes or a line.
 
 use crate::lines::sheet_of;
+use crate::numbers::*;
 use crate::random::*;
-use hubeltxa::{HEADER_LENGTH as HEADER, LINE_LENGTH as LINE};
 
 /// A digit for a digit, a name byte for another; what else stands there stays.
 pub fn alike(byte: u8, state: &mut u64) -> u8 {
@@ -15,14 +15,14 @@ pub fn alike(byte: u8, state: &mut u64) -> u8 {
 
 /// The number of whole lines after a header's bytes.
 pub fn room(sheet: &[u8]) -> usize {
-    sheet.len().saturating_sub(HEADER) / LINE
+    sheet.len().saturating_sub(HEADER_LENGTH) / LINE_LENGTH
 }
 
 /// A header put first that says how many lines there are.
 pub fn recount(sheet: &mut [u8]) {
-    if sheet.len() >= HEADER {
+    if sheet.len() >= HEADER_LENGTH {
         let header = sheet_of(room(sheet), &[]);
-        sheet[..HEADER].copy_from_slice(&header);
+        sheet[..HEADER_LENGTH].copy_from_slice(&header);
     }
 }
 
@@ -33,15 +33,16 @@ pub fn edit(sheet: &mut Vec<u8>, state: &mut u64) {
     }
     let [at, other] = [0; 2].map(|_: usize| below(sheet.len(), state));
     let lines = room(sheet);
-    let start = HEADER + LINE * below(lines.max(1), state);
+    let start = sheet_length(below(lines.max(1), state));
+    let line = start..start + LINE_LENGTH;
     match below(10, state) {
         0 => sheet[at] = random(state) as u8,
         1 => _ = sheet.remove(at),
         2 => sheet.insert(at, any_of(b" \n0A", state)),
         3 => sheet.swap(at, other),
-        4 if lines > 0 => _ = sheet.drain(start..start + LINE),
-        5 if lines > 0 => sheet.extend_from_within(start..start + LINE),
-        6 if lines > 0 => sheet.copy_within(start..start + LINE, HEADER),
+        4 if lines > 0 => _ = sheet.drain(line),
+        5 if lines > 0 => sheet.extend_from_within(line),
+        6 if lines > 0 => sheet.copy_within(line, HEADER_LENGTH),
         _ => sheet[at] = alike(sheet[at], state),
     }
 }
@@ -56,7 +57,7 @@ pub fn edited(mut sheet: Vec<u8>, state: &mut u64) -> Vec<u8> {
 }
 
 /// The tags that a sheet's lines have, good or not.
-pub fn tags_in(sheet: &[u8]) -> Vec<u32> {
-    let lines = sheet.get(HEADER..).unwrap_or_default().chunks_exact(LINE);
-    lines.filter_map(|line| crate::straight_scan::column(&line[..10])?.try_into().ok()).collect()
+pub fn tags_in(sheet: &[u8]) -> Vec<Tag> {
+    let lines = sheet.get(HEADER_LENGTH..).unwrap_or_default().chunks_exact(LINE_LENGTH);
+    lines.filter_map(|line| crate::straight_scan::column(&line[..TAG_COLUMNS])?.try_into().ok()).collect()
 }

@@ -1,6 +1,7 @@
 //! Lines written, and names looked up.
 
 use crate::lent::Lent;
+use crate::numbers::Tag;
 use crate::straight_scan;
 use hubeltxa::raw;
 use std::ops::Range;
@@ -8,8 +9,8 @@ use std::ops::Range;
 /// A call with its arguments. A line is written over a buffer of `lent` bytes.
 #[derive(Clone, Copy)]
 pub enum Call<'a> {
-    Line { tag: u32, codes: [u32; 3], name: &'a [u8], lent: usize },
-    Name { sheet: &'a [u8], tag: u32 },
+    Line { tag: Tag, codes: [u32; 3], name: &'a [u8], lent: usize },
+    Name { sheet: &'a [u8], tag: Tag },
 }
 
 impl std::fmt::Debug for Call<'_> {

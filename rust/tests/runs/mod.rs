@@ -5,6 +5,7 @@
 use crate::compared::query::listing;
 use crate::compared::{each, samples_of, Compared, Tables};
 use crate::damage;
+use crate::numbers::*;
 use crate::random::*;
 use crate::sets::*;
 use crate::straight_scan::{self, Call, Gesture};
@@ -30,11 +31,11 @@ pub fn sequences(compared: &mut Compared, any: AnyQuery, runs: usize, calls: usi
     let state = &mut state;
     for _ in 0..runs {
         let (rows, octants) = (1 + below(60, state), 1 + below(200, state));
-        let words = (2 + 5 * rows + below(5, state), 1 + 11 * octants + below(11, state));
+        let words = any_words_of(rows, octants, state);
         let mut tables = Tables::of(straight_scan::start(words.0, words.1, any_of(&BUCKETS, state)).unwrap());
-        let width = any_of(&[2, 300, 65_536], state);
+        let width = any_of(&[2, 300, CODE_COUNT], state);
         for _ in 0..calls {
-            let tag = below(80, state) as u32;
+            let tag = below(80, state) as Tag;
             let codes = [0; 3].map(|_: u32| below(width, state) as u32);
             let call = if below(4, state) == 0 { Call::Remove(tag) } else { Call::Add(tag, codes) };
             compared.call(&mut tables, &call);
