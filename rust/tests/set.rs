@@ -30,6 +30,17 @@ use random::*;
 use sets::*;
 use straight_scan::{Answer, Bin, Call, Codes, Gesture, Sample};
 
+/// The numbers that the wrapper publishes are those of the tests.
+#[test]
+fn published_numbers() {
+    assert_eq!((hubeltxa::HEADER_LENGTH, hubeltxa::LINE_LENGTH), (HEADER_LENGTH, LINE_LENGTH));
+    assert_eq!((SampleSet::MOST_SAMPLES, SampleSet::OCTANTS_PER_SAMPLE), (MOST_SAMPLES, OCTANTS_A_SAMPLE));
+    for rows in [0, 1, 2, 1_000, MOST_SAMPLES, MOST_OCTANTS] {
+        assert_eq!(hubeltxa::lent::sample_words(rows), sample_words(rows));
+        assert_eq!(hubeltxa::lent::octant_words(rows), octant_words(rows));
+    }
+}
+
 /// A set, and what the straight scan has.
 struct Compare {
     set: SampleSet,
