@@ -1,5 +1,6 @@
 //! Calls, made from tags, codes and the bits of floats, and sequences of them.
 
+use crate::numbers::Tag;
 use crate::straight_scan::{Call, Codes, Gesture};
 
 /// A first clear on tables of these lengths, and the calls after it.
@@ -11,16 +12,7 @@ pub struct Sequence {
     pub calls: Vec<Call>,
 }
 
-/// The lengths of tables of so many rows.
-pub const fn sample_words(rows: usize) -> usize {
-    2 + 5 * rows
-}
-
-pub const fn octant_words(rows: usize) -> usize {
-    1 + 11 * rows
-}
-
-pub fn add(tag: u32, codes: Codes) -> Call {
+pub fn add(tag: Tag, codes: Codes) -> Call {
     Call::Add(tag, codes)
 }
 
@@ -28,17 +20,17 @@ fn panel(bits: [u32; 3]) -> [f32; 3] {
     bits.map(f32::from_bits)
 }
 
-pub fn ball(centre: [u32; 3], radius: u32, listing: &[u32]) -> Call {
+pub fn ball(centre: [u32; 3], radius: u32, listing: &[Tag]) -> Call {
     let query = Gesture::Ball { centre: panel(centre), radius: f32::from_bits(radius) };
     Call::Pick(query, listing.to_vec())
 }
 
-pub fn nearest(centre: [u32; 3], radius: u32, listing: &[u32]) -> Call {
+pub fn nearest(centre: [u32; 3], radius: u32, listing: &[Tag]) -> Call {
     let query = Gesture::Near { centre: panel(centre), radius: f32::from_bits(radius) };
     Call::Pick(query, listing.to_vec())
 }
 
-pub fn in_box(low: [u32; 3], high: [u32; 3], listing: &[u32]) -> Call {
+pub fn in_box(low: [u32; 3], high: [u32; 3], listing: &[Tag]) -> Call {
     Call::Pick(Gesture::Box { low: panel(low), high: panel(high) }, listing.to_vec())
 }
 

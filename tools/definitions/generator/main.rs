@@ -6,6 +6,8 @@
 mod antt;
 mod calls;
 mod floats;
+#[path = "../../../rust/tests/numbers/mod.rs"]
+mod numbers;
 mod pseudo_random;
 mod random;
 mod sheet_values;

@@ -1,8 +1,9 @@
 //! Pseudo-random sequences. Chance alone seldom meets an edge, so colours, radii and lengths are mostly taken from
 //! edges and from what the set holds.
 
-use crate::calls::{add, ball, in_box, nearest, octant_words, sample_words, Sequence};
+use crate::calls::{add, ball, in_box, nearest, Sequence};
 use crate::floats;
+use crate::numbers::*;
 use crate::random::Random;
 use crate::sheets;
 use crate::straight_scan::{distance, start, Bin, Call, Codes, Sample};
@@ -13,11 +14,11 @@ const CODES: [u32; 22] = [
 ];
 
 const RADII: [u32; 16] =
-    [0, 1, 2, 3, 100, 8_192, 28_378, 32_767, 32_768, 56_755, 65_535, 65_536, 92_682, 113_509, 113_510, 131_071];
+    [0, 1, 2, 3, 100, 8_192, 28_378, 32_767, 32_768, 56_755, 65_535, 65_536, 92_682, 113_509, 113_510, MOST_RADIUS];
 
 pub fn code(random: &mut Random) -> u32 {
     if random.once_in(5) {
-        random.below(65_536) as u32
+        random.below(CODE_COUNT) as u32
     } else {
         random.one_of(&CODES)
     }
@@ -27,12 +28,12 @@ pub fn codes(random: &mut Random) -> Codes {
     [(); 3].map(|()| code(random))
 }
 
-pub fn tag(random: &mut Random) -> u32 {
+pub fn tag(random: &mut Random) -> Tag {
     match random.below(12) {
         0 => 0,
-        1 => u32::MAX,
+        1 => MOST_TAG,
         2 => random.word(),
-        _ => random.below(16) as u32,
+        _ => random.below(16) as Tag,
     }
 }
 
@@ -68,7 +69,7 @@ fn colour_near(random: &mut Random, set: &Bin) -> Codes {
 }
 
 /// Listings of every length about the number of samples, with words that no call may disturb.
-fn listing(random: &mut Random, set: &Bin) -> Vec<u32> {
+fn listing(random: &mut Random, set: &Bin) -> Vec<Tag> {
     let count = set.samples.len();
     let length = match random.below(5) {
         0 => random.below(3),
@@ -95,7 +96,7 @@ fn panel(random: &mut Random, codes: Codes) -> [u32; 3] {
 
 /// A ball or a nearest query, two times in three with a radius about the distance of a sample. One time in two that
 /// distance is a whole number (along a channel, or by steps as 2, 3, 6), so that d² = r² is met.
-fn round_query(random: &mut Random, set: &Bin, make: fn([u32; 3], u32, &[u32]) -> Call) -> Call {
+fn round_query(random: &mut Random, set: &Bin, make: fn([u32; 3], u32, &[Tag]) -> Call) -> Call {
     let mut centre = colour_near(random, set);
     let mut radius = random.one_of(&RADII);
     if let Some(sample) = held(random, set).filter(|_| !random.once_in(3)) {
@@ -120,8 +121,8 @@ fn box_query(random: &mut Random, set: &Bin) -> Call {
     for i in 0..3 {
         match random.below(4) {
             0 => low[i] = random.one_of(&[0, 0, 1, 32_767, 32_768]),
-            1 => high[i] = random.one_of(&[65_535, 65_535, 65_534, 32_767, 32_768]),
-            2 => (low[i], high[i]) = (0, random.one_of(&[16_383, 32_767, 65_535])),
+            1 => high[i] = random.one_of(&[MOST_CODE, MOST_CODE, MOST_CODE - 1, 32_767, 32_768]),
+            2 => (low[i], high[i]) = (0, random.one_of(&[16_383, 32_767, MOST_CODE])),
             _ => {}
         }
         if low[i] > high[i] && !random.once_in(8) {
@@ -135,7 +136,7 @@ fn load(random: &mut Random, set: &Bin) -> Call {
     let count = random.below(5);
     let mut samples = Vec::new();
     for _ in 0..count {
-        let tag = if random.once_in(10) { tag(random) } else { 20 + random.below(60) as u32 };
+        let tag = if random.once_in(10) { tag(random) } else { 20 + random.below(60) as Tag };
         samples.push(Sample { tag, codes: colour_near(random, set) });
     }
     Call::Load(sheets::of_samples(random, &samples))
@@ -145,14 +146,14 @@ fn add_call(random: &mut Random, set: &Bin) -> Call {
     let known = held(random, set).filter(|_| random.once_in(10));
     let mut colour = colour_near(random, set);
     if random.once_in(12) {
-        colour[random.below(3)] = random.one_of(&[65_536, 65_537, 131_072, u32::MAX]);
+        colour[random.below(3)] = random.one_of(&[MOST_CODE + 1, MOST_CODE + 2, 131_072, u32::MAX]);
     }
     add(known.map_or_else(|| tag(random), |sample| sample.tag), colour)
 }
 
 fn any_call(random: &mut Random, set: &Bin) -> Call {
     match random.below(100) {
-        0..=2 => Call::Clear(random.one_of(&[0, 1, 2, 3, 5, 256, 257, u32::MAX])),
+        0..=2 => Call::Clear(random.one_of(&[0, 1, 2, 3, 5, MOST_BUCKET, MOST_BUCKET + 1, u32::MAX])),
         3..=32 => add_call(random, set),
         33..=42 => {
             let known = held(random, set).filter(|_| !random.once_in(5));
@@ -167,9 +168,9 @@ fn any_call(random: &mut Random, set: &Bin) -> Call {
 
 /// A sequence of so many calls. Half begin with adds, so that queries find something.
 pub fn sequence(random: &mut Random, name: String, length: usize) -> Sequence {
-    let bucket = random.one_of(&[1, 1, 1, 2, 2, 2, 3, 4, 256]);
-    let sample_words = sample_words(random.one_of(&[0, 1, 2, 5, 8, 12, 12, 12])) + random.below(5);
-    let octant_words = octant_words(random.one_of(&[0, 1, 2, 9, 18, 30, 40, 60, 60])) + random.below(11);
+    let bucket = random.one_of(&[1, 1, 1, 2, 2, 2, 3, 4, MOST_BUCKET]);
+    let sample_words = sample_words(random.one_of(&[0, 1, 2, 5, 8, 12, 12, 12])) + random.below(SAMPLE_ROW);
+    let octant_words = octant_words(random.one_of(&[0, 1, 2, 9, 18, 30, 40, 60, 60])) + random.below(OCTANT_ROW);
     let mut set = start(sample_words, octant_words, bucket).expect("a first clear that is accepted");
     let adds = if random.once_in(2) { length / 2 } else { 0 };
     let mut calls = Vec::new();

@@ -1,9 +1,11 @@
 //! Values of the definitions of sheets: columns, lines, headers, names, what is written and what walklist prints.
 
 use crate::antt::{arguments, bytes, numbers, Output};
+use crate::numbers::walklist::{MOST_LINES, MOST_READ};
+use crate::numbers::*;
 use crate::pseudo_random::{codes, tag};
 use crate::random::Random;
-use crate::sheets::{damaged_line, header, line, name, of_samples, sheet, LINE};
+use crate::sheets::{damaged_line, header, line, name, of_samples, sheet};
 use crate::straight_scan::{self, Codes, Sample};
 use crate::values::{value, Value};
 
@@ -19,8 +21,8 @@ fn columns(random: &mut Random) -> Vec<Value> {
                  |          |         0|1|12a|\t1|1\n|0 | 0 |5:|5/";
     let mut columns: Vec<Vec<u8>> = given.split('|').map(|text| text.as_bytes().to_vec()).collect();
     for _ in 0..25 {
-        let mut column = format!("{:>10}", random.word() >> random.below(32)).into_bytes();
-        column[random.below(10)] = random.one_of(b" 09/:\0\xFF");
+        let mut column = format!("{:>TAG_COLUMNS$}", random.word() >> random.below(32)).into_bytes();
+        column[random.below(TAG_COLUMNS)] = random.one_of(b" 09/:\0\xFF");
         columns.push(column);
     }
     columns
@@ -30,18 +32,20 @@ fn columns(random: &mut Random) -> Vec<Value> {
 }
 
 fn lines(random: &mut Random) -> Vec<Vec<u8>> {
-    let mut lines = vec![vec![], vec![b' '; LINE], vec![b'0'; LINE]];
-    // Numbers at the ends of their range and past them: 2^32 itself is one too many.
-    for tag in [0, 9, 10, 999_999_999, 4_294_967_294, 4_294_967_295, 4_294_967_296, 4_294_967_297, 9_999_999_999] {
+    let mut lines = vec![vec![], vec![b' '; LINE_LENGTH], vec![b'0'; LINE_LENGTH]];
+    // Numbers at the ends of their range and past them; tags of nines too, as many as there are columns and one fewer.
+    let (most, wide) = (u128::from(MOST_TAG), 10_u128.pow(TAG_COLUMNS as u32));
+    for tag in [0, 9, 10, wide / 10 - 1, most - 1, most, most + 1, most + 2, wide - 1] {
         lines.push(line(tag, [0, 10, 65_535], b"Z"));
     }
-    for over in [65_534, 65_535, 65_536, 65_537, 99_999, 100_000, 999_999] {
+    let last = u64::from(MOST_CODE);
+    for over in [last - 1, last, last + 1, last + 2, 99_999, 100_000, 999_999] {
         lines.extend([[over, 1, 2], [1, over, 2], [1, 2, over]].map(|codes| line(7, codes, b"Z")));
     }
     // Every byte of a line altered, of one with a short name and of one without a blank to spare.
     let short = line(120, [65_535, 7, 0], b"A001");
-    let full = line(4_294_967_295, [65_535; 3], &[b'~'; 32]);
-    for at in 0..LINE {
+    let full = line(most, [65_535; 3], &[b'~'; NAME_COLUMNS]);
+    for at in 0..LINE_LENGTH {
         for (good, byte) in [(&short, b' '), (&short, b'0'), (&short, b'\n'), (&full, random.one_of(b" !\x7F91"))] {
             let mut altered = good.clone();
             altered[at] = byte;
@@ -78,7 +82,7 @@ fn sheets(random: &mut Random) -> Vec<Vec<u8>> {
     sheets.extend([header(0), header(1), header("-0"), header("0     ")]);
     for _ in 0..20 {
         let samples: Vec<Sample> =
-            (0..random.below(5)).map(|_| Sample { tag: 5 + random.below(3) as u32, codes: codes(random) }).collect();
+            (0..random.below(5)).map(|_| Sample { tag: 5 + random.below(3) as Tag, codes: codes(random) }).collect();
         sheets.push(of_samples(random, &samples));
     }
     // Each line of three damaged in turn, with a tag that stands twice: a bad line anywhere leaves no name.
@@ -94,7 +98,7 @@ fn sheets(random: &mut Random) -> Vec<Vec<u8>> {
     sheets
 }
 
-fn name_value(sheet: &[u8], tag: u32) -> Value {
+fn name_value(sheet: &[u8], tag: Tag) -> Value {
     let part = straight_scan::name_of(sheet, tag);
     let name = sheet[part.clone()].iter().map(|&b| b as u64);
     let said: Vec<u64> = [part.start as u64, part.len() as u64].into_iter().chain(name).collect();
@@ -115,16 +119,17 @@ fn write_value(random: &mut Random, colour: Codes, name: &[u8], length: usize) -
 
 /// Where two questions say no, the first is the number: bad names come with short lengths, and bad colours with both.
 fn writes(random: &mut Random) -> Vec<Value> {
-    let long = [b'A'; 40];
-    let names: [&[u8]; 10] = [b"A001", b"!", b"~", b"A=9", &long[..32], &long[..33], &long, b"", b"A B", b"A\x7F"];
+    let long = [b'A'; NAME_COLUMNS + 8];
+    let (good, over) = (&long[..NAME_COLUMNS], &long[..NAME_COLUMNS + 1]);
+    let names: [&[u8]; 10] = [b"A001", b"!", b"~", b"A=9", good, over, &long, b"", b"A B", b"A\x7F"];
     let mut values = Vec::new();
     for name in names {
-        for length in [0, 61, 62, 63, 70] {
+        for length in [0, LINE_LENGTH - 1, LINE_LENGTH, LINE_LENGTH + 1, LINE_LENGTH + 8] {
             let colour = codes(random);
             values.push(write_value(random, colour, name, length));
         }
-        for colour in [[65_536, 0, 0], [0, 65_536, 0], [0, 0, u32::MAX]] {
-            let length = random.one_of(&[61, 62]);
+        for colour in [[MOST_CODE + 1, 0, 0], [0, MOST_CODE + 1, 0], [0, 0, u32::MAX]] {
+            let length = random.one_of(&[LINE_LENGTH - 1, LINE_LENGTH]);
             values.push(write_value(random, colour, name, length));
         }
     }
@@ -145,8 +150,11 @@ fn walklists(random: &mut Random) -> Vec<Value> {
             .described(format!("walklist of \"{}\"", input[..input.len().min(200)].escape_ascii()))
     };
     let mut values: Vec<Value> = sheets.iter().map(|s| compared(s, bytes(s))).collect();
-    // About 32,768 bytes, past which all is cut off: 528 lines are 32,751.
-    for (head, blanks) in [(header(528), 32_736), (header(528), 32_753), (header(528), 32_754), (header(529), 32_798)] {
+    // About as many bytes as are read: past them all is cut off.
+    let lengths = [sheet_length(MOST_LINES), MOST_READ, MOST_READ + 1];
+    let most = lengths.map(|length| (MOST_LINES, length)).into_iter();
+    for (count, length) in most.chain([(MOST_LINES + 1, sheet_length(MOST_LINES + 1))]) {
+        let (head, blanks) = (header(count), length - HEADER_LENGTH);
         let input = [&head[..], &vec![b' '; blanks]].concat();
         values.push(compared(&input, format!("({} ++ replicate {blanks} 32)", bytes(&head))));
     }

@@ -1,12 +1,13 @@
 //! Sequences that meet the edges which chance seldom does.
 
-use crate::calls::{add, ball, in_box, nearest, octant_words, sample_words, Sequence};
-use crate::floats::{self, exact, exact_panel};
+use crate::calls::{add, ball, in_box, nearest, Sequence};
+use crate::floats::{self, shown, shown_panel};
+use crate::numbers::*;
 use crate::pseudo_random::root;
 use crate::sheets::{line, sheet};
 use crate::straight_scan::{distance, Call, Codes};
 
-const WHITE: Codes = [65_535; 3];
+const WHITE: Codes = [MOST_CODE; 3];
 const BLACK: Codes = [0; 3];
 
 /// A sequence on tables that hold every sample added, each in a path of octants of its own.
@@ -17,7 +18,7 @@ fn roomy(name: String, bucket: u32, calls: Vec<Call>) -> Sequence {
 
 /// A ball and a nearest query at one place.
 fn both(centre: Codes, radius: u32, listing: usize) -> [Call; 2] {
-    let (centre, radius) = (exact_panel(centre), exact(radius));
+    let (centre, radius) = (shown_panel(centre), shown(radius));
     [ball(centre, radius, &vec![77; listing]), nearest(centre, radius, &[77])]
 }
 
@@ -31,7 +32,7 @@ fn in_tens(name: &str, bucket: u32, adds: Vec<Call>, queries: Vec<Call>) -> Vec<
 fn sheets() -> Vec<Sequence> {
     let good = line(120, [65_535, 7, 0], b"A001");
     let one = sheet(&[good.clone()]);
-    let two = sheet(&[good, line(4_294_967_295, [0, 65_535, 32_768], &[b'!'; 32])]);
+    let two = sheet(&[good, line(MOST_TAG.into(), [0, 65_535, 32_768], &[b'!'; NAME_COLUMNS])]);
     let mut loads = Vec::new();
     for at in 0..one.len() {
         for byte in *b" 01\n~\x7F\0" {
@@ -44,7 +45,7 @@ fn sheets() -> Vec<Sequence> {
         loads.push(Call::Load(two[..length].to_vec()));
         if length >= one.len() {
             let mut promised = two[..length].to_vec();
-            promised[13] = b'1';
+            promised[HEADER_LENGTH - 2] = b'1'; // the count
             loads.push(Call::Load(promised));
         }
     }
@@ -65,12 +66,12 @@ fn planes() -> Vec<Sequence> {
     let adds: Vec<Call> = (0..8).map(|k| add((k + 5) % 8, about(k))).collect();
     let mut queries = Vec::new();
     for k in [0, 3, 6] {
-        let colour = exact_panel(about(k));
+        let colour = shown_panel(about(k));
         queries.extend([0, 1, 2, 56_755].into_iter().flat_map(|radius| both(about(k), radius, 8)));
         queries.push(in_box(colour, colour, &[9; 2]));
-        queries.push(in_box(exact_panel(BLACK), colour, &[9; 8]));
-        queries.push(in_box(colour, exact_panel(WHITE), &[9; 8]));
-        queries.push(in_box(exact_panel([32_768; 3]), colour, &[9; 8]));
+        queries.push(in_box(shown_panel(BLACK), colour, &[9; 8]));
+        queries.push(in_box(colour, shown_panel(WHITE), &[9; 8]));
+        queries.push(in_box(shown_panel([32_768; 3]), colour, &[9; 8]));
     }
     [1, 7, 8].iter().flat_map(|&b| in_tens(&format!("planes-{b}"), b, adds.clone(), queries.clone())).collect()
 }
@@ -86,7 +87,7 @@ fn last_depth() -> Vec<Sequence> {
             adds.extend([add(2 * channel as u32, colour), add(2 * channel as u32 + 1, other)]);
         }
         let mut queries: Vec<Call> =
-            [0, 1, 2, 131_071].into_iter().flat_map(|radius| both(colour, radius, 7)).collect();
+            [0, 1, 2, MOST_RADIUS].into_iter().flat_map(|radius| both(colour, radius, 7)).collect();
         queries.extend(both([colour[0] ^ 1, colour[1] ^ 1, colour[2]], 2, 7));
         for tag in [0, 2, 99, 99] {
             queries.push(Call::Remove(tag));
@@ -129,19 +130,19 @@ fn radii() -> Vec<Sequence> {
 fn inside() -> Vec<Sequence> {
     let mut sequences = Vec::new();
     for depth in [1, 2, 8, 15] {
-        let side = 65_536 >> depth;
+        let side = CODE_COUNT as u32 >> depth;
         let last = side - 1;
         let adds = vec![add(1, BLACK), add(2, [last; 3]), add(3, [side, 0, 0]), add(4, [last, 0, last])];
         let far = root(distance(BLACK, [last; 3]));
         let mut queries = Vec::new();
         for radius in [far, far + 1, last, side] {
-            queries.push(ball(exact_panel(BLACK), exact(radius), &[5; 4]));
-            queries.push(ball(exact_panel([last; 3]), exact(radius), &[5; 4]));
+            queries.push(ball(shown_panel(BLACK), shown(radius), &[5; 4]));
+            queries.push(ball(shown_panel([last; 3]), shown(radius), &[5; 4]));
         }
         for end in [last.saturating_sub(1), last, side] {
-            queries.push(in_box(exact_panel(BLACK), exact_panel([end; 3]), &[5; 4]));
-            queries.push(in_box([0x8000_0000; 3], exact_panel([end, last, last]), &[5; 3]));
-            queries.push(in_box(exact_panel([1, 0, 0]), exact_panel([side, end, end]), &[5; 4]));
+            queries.push(in_box(shown_panel(BLACK), shown_panel([end; 3]), &[5; 4]));
+            queries.push(in_box([0x8000_0000; 3], shown_panel([end, last, last]), &[5; 3]));
+            queries.push(in_box(shown_panel([1, 0, 0]), shown_panel([side, end, end]), &[5; 4]));
         }
         sequences.extend(in_tens(&format!("inside-{depth}"), 3, adds, queries));
     }
@@ -168,20 +169,26 @@ fn room() -> Vec<Sequence> {
         calls: calls.to_vec(),
     };
     // Full, with a tag that is known: question 5 comes before 6, and 4 before both.
-    let known = [add(1, BLACK), add(1, [5; 3]), add(2, [5; 3]), add(1, [65_536, 0, 0]), load(1), load(3)];
+    let known = [add(1, BLACK), add(1, [5; 3]), add(2, [5; 3]), add(1, [MOST_CODE + 1, 0, 0]), load(1), load(3)];
     let known = [&known[..], &[Call::Remove(2), Call::Remove(1), add(2, [5; 3])]].concat();
-    let mut sequences = vec![with_lengths("full-rows", 2, 9, octant_words(3), &known)];
-    // The tree of black and white is 3 octants, with another black 18: 199 words.
+    let mut sequences = vec![with_lengths("full-rows", 2, sample_words(1) + 2, octant_words(3), &known)];
+    // The tree of black and white is 3 octants, with another black 18.
     let split =
         [add(7, BLACK), add(8, WHITE), add(9, BLACK), add(10, [0, 0, 1]), Call::Remove(8), load(11), add(12, BLACK)];
-    for length in [12, 33, 34, 198, 199, 200, 209, 210] {
+    let [one, three, all, more] = [1, 3, 18, 19].map(octant_words);
+    for length in [one, three - 1, three, all - 1, all, all + 1, more - 1, more] {
         sequences.push(with_lengths(&format!("octant-words-{length}"), 1, sample_words(3), length, &split));
     }
     let queries = both(BLACK, 1, 0);
-    let few = [&[add(7, BLACK), Call::Remove(7)], &queries[..], &[Call::Clear(256), Call::Clear(257), Call::Clear(0)]]
-        .concat();
+    let few =
+        [&[add(7, BLACK), Call::Remove(7)], &queries[..], &[MOST_BUCKET, MOST_BUCKET + 1, 0].map(Call::Clear)].concat();
     let few = [&few[..], &[Call::Load(sheet(&[])), load(1)]].concat();
-    for (name, samples, octants) in [("shortest", 2, 1), ("no-sample-row", 6, 30), ("no-octant-row", 17, 11)] {
+    let lengths = [
+        ("shortest", SAMPLE_HEADER, OCTANT_HEADER),
+        ("no-sample-row", sample_words(1) - 1, octant_words(2) + 7),
+        ("no-octant-row", sample_words(3), octant_words(1) - 1),
+    ];
+    for (name, samples, octants) in lengths {
         sequences.push(with_lengths(name, 1, samples, octants, &few));
     }
     sequences
@@ -189,21 +196,21 @@ fn room() -> Vec<Sequence> {
 
 /// Tag 0 at d² 0 is found; among equals the earliest in the order is, not the earliest added.
 fn found() -> Vec<Sequence> {
-    let at = |code: u32, radius: u32| nearest(exact_panel([code, 0, 0]), radius, &[4]);
+    let at = |code: u32, radius: u32| nearest(shown_panel([code, 0, 0]), radius, &[4]);
     let calls = vec![
-        at(0, exact(1)),
+        at(0, shown(1)),
         add(0, BLACK),
-        at(0, exact(1)),
+        at(0, shown(1)),
         at(0, 0x8000_0000),
-        at(0, 0x377F_FFFF),
+        at(0, least_float(1) - 1),
         Call::Remove(0),
         add(9, [10, 0, 0]),
         add(8, BLACK),
-        at(5, exact(6)),
-        at(5, exact(5)),
+        at(5, shown(6)),
+        at(5, shown(5)),
         add(7, [0, 10, 0]),
         add(6, [0, 0, 10]),
-        nearest(exact_panel([5; 3]), exact(131_071), &[]),
+        nearest(shown_panel([5; 3]), shown(MOST_RADIUS), &[]),
     ];
     vec![roomy("found".to_string(), 1, calls)]
 }
@@ -212,22 +219,22 @@ fn found() -> Vec<Sequence> {
 fn refused_floats() -> Vec<Sequence> {
     let one = || add(1, [1; 3]);
     let pairs = [
-        (0x3780_0001, 0x3780_0000),
-        (0x3800_0000, 0x37FF_FFFF),
+        (least_float(1) + 1, least_float(1)),
+        (least_float(2), least_float(2) - 1),
         (0x0000_0001, 0x8000_0000),
-        (0x8000_0000, 0x3F7F_FFFF),
+        (0x8000_0000, GREATEST_CHANNEL),
     ];
     let boxes = pairs.map(|(low, high)| in_box([low; 3], [high; 3], &[0]));
     let mut sequences = in_tens("one-code", 1, vec![one()], boxes.to_vec());
     let mut queries = Vec::new();
     for (k, bad) in floats::BAD.into_iter().enumerate() {
-        let mut panel = [0x3780_0000; 3];
+        let mut panel = [least_float(1); 3];
         panel[k % 3] = bad;
-        queries.push(ball(panel, exact(2), &[3]));
-        queries.push(nearest(panel, exact(2), &[3]));
+        queries.push(ball(panel, shown(2), &[3]));
+        queries.push(nearest(panel, shown(2), &[3]));
         queries.push(ball([0; 3], bad, &[3]));
         queries.push(nearest([0; 3], bad, &[3]));
-        queries.push(in_box(panel, [0x3F7F_FFFF; 3], &[3]));
+        queries.push(in_box(panel, [GREATEST_CHANNEL; 3], &[3]));
         queries.push(in_box([0; 3], panel, &[3]));
     }
     sequences.extend(in_tens("bad-floats", 1, vec![one()], queries));

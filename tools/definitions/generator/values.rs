@@ -2,6 +2,7 @@
 
 use crate::antt::{arguments, numbers, Output};
 use crate::floats;
+use crate::numbers::*;
 use crate::pseudo_random::codes;
 use crate::random::Random;
 use crate::straight_scan::{self, Bin, Codes};
@@ -37,20 +38,20 @@ fn codes_value(panel: [u32; 3]) -> Value {
 fn panels(random: &mut Random) -> Vec<[u32; 3]> {
     let mut panels = Vec::new();
     for float in floats::BAD.into_iter().chain(floats::ODD) {
-        panels.extend([[float, 0x3F00_0000, 0x3F7F_FFFF], [0, float, 0x8000_0000], [0x3F7F_FFFF, 0, float]]);
+        panels.extend([[float, 0x3F00_0000, GREATEST_CHANNEL], [0, float, 0x8000_0000], [GREATEST_CHANNEL, 0, float]]);
     }
     for _ in 0..25 {
         panels.push(codes(random).map(|code| floats::with_code(random, code)));
         panels.push([(); 3].map(|()| random.word() >> 2));
-        panels.push([random.word(), random.word() >> 2, 0x3780_0000]);
+        panels.push([random.word(), random.word() >> 2, least_float(1)]);
     }
     panels
 }
 
 fn shown_colours(random: &mut Random) -> Vec<Codes> {
-    let mut colours: Vec<Codes> = (0..16).map(|bit| [1 << bit, (1 << bit) - 1, 65_535 - (1 << bit)]).collect();
+    let mut colours: Vec<Codes> = (0..16).map(|bit| [1 << bit, (1 << bit) - 1, MOST_CODE - (1 << bit)]).collect();
     colours.extend((0..25).map(|_| codes(random)));
-    for over in [65_536, 65_537, u32::MAX] {
+    for over in [MOST_CODE + 1, MOST_CODE + 2, u32::MAX] {
         colours.extend([[over, 1, 2], [1, over, 2], [1, 2, over]]);
     }
     colours
@@ -67,7 +68,7 @@ fn floats_value(colour: Codes) -> Value {
 
 /// The key by halving cubes from the root down, as no definition of it does.
 fn key_value(colour: Codes) -> Value {
-    let (mut low, mut side, mut key) = ([0; 3], 65_536, 0u64);
+    let (mut low, mut side, mut key) = ([0; 3], CODE_COUNT as u32, 0u64);
     while side > 1 {
         side /= 2;
         key *= 8;
@@ -101,12 +102,18 @@ pub fn all(output: &mut Output, random: &mut Random) {
     output.values("floatsToCodes", &panels.into_iter().map(codes_value).collect::<Vec<_>>());
     output.values("codesToFloats", &colours.iter().map(|&c| floats_value(c)).collect::<Vec<_>>());
     output.values("key", &colours.iter().take(41).map(|&c| key_value(c)).collect::<Vec<_>>());
-    let lengths =
-        [2, 3, 6, 7, 8, 11, 12, 13, 22, 23, 24, 20_481, 20_482, 20_486, 20_487, 20_488, 30_000, 4_294_967_295];
-    output.values("rows", &lengths.map(rows_value));
+    let about = |words: usize| [words - 1, words, words + 1];
+    let few = [sample_words(1), octant_words(1), octant_words(2)].map(about).concat();
+    let most = sample_words(MOST_SAMPLES);
+    let ends = [&[most - 1, most], &about(sample_words(MOST_SAMPLES + 1))[..], &[30_000, u32::MAX as usize]].concat();
+    let lengths = [&[SAMPLE_HEADER, SAMPLE_HEADER + 1], &few[..], &ends].concat();
+    output.values("rows", &lengths.into_iter().map(rows_value).collect::<Vec<_>>());
     let mut starts = Vec::new();
-    for bucket in [0, 1, 2, 256, 257, u32::MAX] {
-        starts.extend([(2, 1), (1, 1), (2, 0), (0, 0), (7, 12)].map(|(s, o)| start_value(bucket, s, o)));
+    let (samples, octants) = (SAMPLE_HEADER, OCTANT_HEADER);
+    let row = (sample_words(1), octant_words(1));
+    let lengths = [(samples, octants), (samples - 1, octants), (samples, 0), (0, 0), row];
+    for bucket in [0, 1, 2, MOST_BUCKET, MOST_BUCKET + 1, u32::MAX] {
+        starts.extend(lengths.map(|(s, o)| start_value(bucket, s, o)));
     }
     output.values("start", &starts);
 }
