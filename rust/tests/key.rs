@@ -21,7 +21,7 @@ use std::path::{Path, PathBuf};
 use std::process::Command;
 use straight_scan::{Bin, Codes, Gesture, Sample};
 
-/// What README says to type, and makes `docs/key.png`: picks on the face, and a radius.
+/// What makes `docs/key.png`: picks on the face, whose colours are the demo's sheet, and a radius.
 const PICKS: [(usize, usize); 6] = [(90, 52), (106, 70), (98, 80), (106, 54), (88, 30), (88, 70)];
 const RADIUS: &str = "0.08";
 
@@ -137,6 +137,23 @@ fn the_portrait_keyed() {
     fs::write(folder.join("face.txt"), sheet(&samples)).unwrap();
     let by_sheet = ["portrait.ppm", "face.txt", RADIUS, "matte.pgm"];
     assert_eq!(compare(&folder, &by_sheet, &picture, &samples, RADIUS), white);
+}
+
+/// The demo's sheet has the colours of the picked pixels; the order that the demo prints, and the matte by that sheet,
+/// are the straight scan's.
+#[test]
+fn the_sheet_of_the_demo() {
+    let folder = folder("demo");
+    let picture = drawn(&folder);
+    let examples = concat!(env!("CARGO_MANIFEST_DIR"), "/../examples");
+    let path = format!("{examples}/face.sheet");
+    let sheet = fs::read(&path).unwrap();
+    let lines = sheet[HEADER_LENGTH..].chunks(LINE_LENGTH);
+    let samples: Vec<Sample> = lines.map(|line| straight_scan::line(line).unwrap().0).collect();
+    assert!(samples.iter().map(|sample| sample.codes).eq(PICKS.iter().map(|&(x, y)| picture[y][x])));
+    compare(&folder, &["portrait.ppm", &path, RADIUS, "matte.pgm"], &picture, &samples, RADIUS);
+    let printed = fs::read_to_string(format!("{examples}/demo.out")).unwrap();
+    assert!(printed.contains(&format!(":\n{}Keyed", straight_scan::walklist(&sheet))), "{printed}");
 }
 
 #[test]
