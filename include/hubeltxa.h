@@ -9,8 +9,8 @@
  * it did not. hbx_name cannot refuse and returns nothing; hbx_check returns yes or no. All else
  * comes back through pointers.
  *
- * Each pointer must point to an object of its type, or, where a length follows it, to that many of
- * them. It must never be null, not even where the length is 0. What a call may write (all that is
+ * Each pointer must point to an object of its type, or, if a length follows it, to that many of
+ * them. It must never be null, not even if the length is 0. What a call may write (all that is
  * not const) must not overlap anything else that the call is given. The library does not test this.
  *
  * The library has no state, allocates nothing and keeps no pointer. Threads may call it at the same
@@ -130,7 +130,7 @@ enum {
 #define HBX_SAMPLE_WORDS(rows) (HBX_SAMPLE_HEADER + HBX_SAMPLE_ROW * (size_t)(rows))
 #define HBX_OCTANT_WORDS(rows) (HBX_OCTANT_HEADER + HBX_OCTANT_ROW * (size_t)(rows))
 
-/* Where a word stands, from the start of its table or row: samples[HBX_AT_COUNT] is the sample
+/* If a word stands, from the start of its table or row: samples[HBX_AT_COUNT] is the sample
  * count, and samples[HBX_SAMPLE_WORDS(k) + HBX_AT_TAG] the tag in sample row k.
  */
 enum {                      /* in a header */
@@ -153,16 +153,16 @@ enum {                      /* in an octant row */
 
 /* The codes of a panel colour.
  *
- * Returns 0 where all three channels are good: the three words get the codes.
- * Returns 9 where one is not: the three words get 0.
+ * Returns 0 if all three channels are good: the three words are set to the codes.
+ * Returns 9 if one is not: the three words are set to 0.
  */
 uint32_t hbx_codes(float red, float green, float blue,
                    uint32_t *red_code, uint32_t *green_code, uint32_t *blue_code);
 
 /* A colour as panel floats: each code as it is shown. hbx_codes gives the same codes back.
  *
- * Returns 0 where all three codes are at most HBX_MOST_CODE: the three floats get the channels.
- * Returns 4 where one is not: the three floats get 0.
+ * Returns 0 if all three codes are at most HBX_MOST_CODE: the three floats are set to the channels.
+ * Returns 4 if one is not: the three floats are set to 0.
  */
 uint32_t hbx_floats(uint32_t red, uint32_t green, uint32_t blue,
                     float *red_out, float *green_out, float *blue_out);
@@ -170,7 +170,7 @@ uint32_t hbx_floats(uint32_t red, uint32_t green, uint32_t blue,
 /* Writes one line of a sheet over the first HBX_LINE_LENGTH of the line_len bytes at line. Bytes
  * after them stay as they were.
  *
- * Returns 0 where the line is written. Otherwise nothing is written, and the first of these that is
+ * Returns 0 if the line is written. Otherwise nothing is written, and the first of these that is
  * so gives the number:
  *    4  a code is over HBX_MOST_CODE
  *   10  the name is not good
@@ -182,15 +182,15 @@ uint32_t hbx_line(uint32_t tag, uint32_t red, uint32_t green, uint32_t blue,
 /* Looks up the reel name in the first line with the tag. The name is a part of the caller's own
  * sheet: the *length bytes from sheet + *start on. No null byte follows it.
  *
- * Both get 0 where no line has the tag, and where the header or any line is not good, also one after
- * the line with the tag. Where the name is found, *length is 1 to HBX_NAME_COLUMNS. Each call reads
- * the whole sheet.
+ * Both are set to 0 if no line has the tag, and if the header or any line is not good, also one
+ * after the line with the tag. If the name is found, *length is 1 to HBX_NAME_COLUMNS. Each call
+ * reads the whole sheet.
  */
 void hbx_name(const uint8_t *sheet, size_t sheet_len, uint32_t tag, size_t *start, size_t *length);
 
 /* Writes the tables of the empty set with this bucket size, whatever words they held.
  *
- * Returns 0 where they are written. Otherwise nothing is written, and the first of these that is so
+ * Returns 0 if they are written. Otherwise nothing is written, and the first of these that is so
  * gives the number:
  *    1  samples_len is under HBX_SAMPLE_HEADER, or octants_len under HBX_OCTANT_HEADER
  *    3  the bucket size is not from 1 to HBX_MOST_BUCKET
@@ -211,7 +211,7 @@ uint32_t hbx_check(const uint32_t *samples, size_t samples_len, const uint32_t *
 
 /* Adds a sample at the end of the set.
  *
- * Returns 0 where it is added. Otherwise both tables are as they were, and the first of these that
+ * Returns 0 if it is added. Otherwise both tables are as they were, and the first of these that
  * is so gives the number:
  *    1  samples_len is under HBX_SAMPLE_HEADER, or octants_len under HBX_OCTANT_HEADER
  *    2  the tables are not sound
@@ -226,7 +226,7 @@ uint32_t hbx_add(uint32_t *samples, size_t samples_len, uint32_t *octants, size_
 /* Removes the sample with the tag. The others keep their order, and those after it move one row up:
  * its row can be used again.
  *
- * Returns 0 where it is removed. Otherwise both tables are as they were, and the first of these that
+ * Returns 0 if it is removed. Otherwise both tables are as they were, and the first of these that
  * is so gives the number:
  *    1  samples_len is under HBX_SAMPLE_HEADER, or octants_len under HBX_OCTANT_HEADER
  *    2  the tables are not sound
@@ -236,15 +236,16 @@ uint32_t hbx_remove(uint32_t *samples, size_t samples_len, uint32_t *octants, si
                     uint32_t tag);
 
 /* Adds the samples of a sheet's lines, line by line, up to the first line that is refused; the reel
- * names are checked and not kept. *taken gets how many lines were taken.
+ * names are checked and not kept. *taken is set to how many lines were taken.
  *
- * Returns 0 where every line is taken; of a sheet with no lines, that is none. Where the first of
- * these gives the number, both tables are as they were, and *taken gets 0:
+ * Returns 0 if every line is taken; of a sheet with no lines, that is none. If the first of
+ * these gives the number, both tables are as they were, and *taken is set to 0:
  *    1  samples_len is under HBX_SAMPLE_HEADER, or octants_len under HBX_OCTANT_HEADER
  *    2  the tables are not sound
  *   11  the header is not good
  * Otherwise a line is refused. The lines before it stay in the set, as if they were the whole sheet,
- * and *taken gets how many they are. The first of these that is so of the line gives the number:
+ * and *taken is set to how many they are. The first of these that is so of the line gives the
+ * number:
  *   12  the line is not good
  *    5  a sample of the set, or of a line before it, has the tag
  *    6  no sample row is unused
@@ -258,23 +259,23 @@ uint32_t hbx_load(uint32_t *samples, size_t samples_len, uint32_t *octants, size
  * colour. All floats, the radius too, are taken as codes.
  *
  *     ball   samples with d^2 < r^2: d^2 is the sum of the three squared differences between the
- *            codes of sample and centre, r the radius as a code (where r is 0 nothing is in it)
+ *            codes of sample and centre, r the radius as a code (if r is 0 nothing is in it)
  *     box    samples with low <= code <= high in all three channels
  *
  * The tags are written from the listing's first word on; the words after them stay as they were.
- * *listed gets how many tags they are, *entered how many octants were gone into, *measured how many
- * samples were looked at one by one. (An octant that lies inside the region is listed whole: it is
- * entered, and its samples are not measured.)
+ * *listed is set to how many tags they are, *entered to how many octants were gone into, *measured
+ * to how many samples were looked at one by one. (An octant that lies inside the region is listed
+ * whole: it is entered, and its samples are not measured.)
  *
- * A listing of samples[HBX_AT_COUNT] words, or of as many as there are sample rows where that is
+ * A listing of samples[HBX_AT_COUNT] words, or of as many as there are sample rows if that is
  * fewer, never gives 13 and is written in one pass. For a shorter one the tags are counted first,
- * and then written where it holds all.
+ * and then written if it holds all.
  *
  * A query does not ask whether the tables are sound: that would cost more than the query. On tables
  * that are not, nothing dangerous happens, and the call ends. A pass enters at most as many octants
  * as the octant table's count says, and as there are rows, and goes through at most as many samples
  * as the sample table's count says, and as there are rows. Nothing is written but the listing, up to
- * *listed, and the three reports. But the listing then means nothing: call hbx_check where in doubt.
+ * *listed, and the three reports. But the listing then means nothing: call hbx_check if in doubt.
  *
  * The three calls only read the tables. 8,000 bytes of stack are enough for each (measured, not
  * proved).
@@ -282,8 +283,8 @@ uint32_t hbx_load(uint32_t *samples, size_t samples_len, uint32_t *octants, size
 
 /* Lists the samples in a ball.
  *
- * Returns 0 where they are listed. Otherwise the listing is as it was, the three reports get 0, and
- * the first of these that is so gives the number:
+ * Returns 0 if they are listed. Otherwise the listing is as it was, the three reports are set to 0,
+ * and the first of these that is so gives the number:
  *    1  samples_len is under HBX_SAMPLE_HEADER, or octants_len under HBX_OCTANT_HEADER
  *    9  a channel of the centre is not good, or the radius is not
  *   13  listing_len is under the number of tags to list
@@ -295,8 +296,8 @@ uint32_t hbx_ball(const uint32_t *samples, size_t samples_len, const uint32_t *o
 
 /* Lists the samples in a box.
  *
- * Returns 0 where they are listed. Otherwise the listing is as it was, the three reports get 0, and
- * the first of these that is so gives the number:
+ * Returns 0 if they are listed. Otherwise the listing is as it was, the three reports are set to 0,
+ * and the first of these that is so gives the number:
  *    1  samples_len is under HBX_SAMPLE_HEADER, or octants_len under HBX_OCTANT_HEADER
  *    9  a channel of either colour is not good, or low is above high in one, as codes
  *   13  listing_len is under the number of tags to list
@@ -307,17 +308,17 @@ uint32_t hbx_box(const uint32_t *samples, size_t samples_len, const uint32_t *oc
                  size_t listing_len, uint32_t *listed, uint32_t *entered, uint32_t *measured);
 
 /* Finds the sample that is nearest to a centre, of those in the ball: the least d^2 < r^2, and the
- * first in the order of the samples where several have it. There is no listing, and nothing is
+ * first in the order of the samples if several have it. There is no listing, and nothing is
  * written but the three words that the last pointers point to.
  *
- * Where a sample is found, *found gets 1, *tag its tag and *distance its d^2. Where none is in the
- * ball all three get 0. (Tag 0 at d^2 0 can be a find.)
+ * If a sample is found, *found is set to 1, *tag to its tag and *distance to its d^2. If none is in
+ * the ball, all three are set to 0. (Tag 0 at d^2 0 can be a find.)
  *
  * Nor does this query ask whether the tables are sound. On tables that are not, it ends by the same
  * bounds on octants and samples, and what it finds means nothing.
  *
- * Returns 0 where it has looked. Otherwise the three words get 0, and the first of these that is so
- * gives the number:
+ * Returns 0 if it has looked. Otherwise the three words are set to 0, and the first of these that is
+ * so gives the number:
  *    1  samples_len is under HBX_SAMPLE_HEADER, or octants_len under HBX_OCTANT_HEADER
  *    9  a channel of the centre is not good, or the radius is not
  */

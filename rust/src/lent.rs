@@ -1,7 +1,7 @@
 //! The calls on tables that the caller lends, as the C header has them. [`SampleSet`](crate::SampleSet) owns its
-//! tables, and is simpler where that will do.
+//! tables, and is simpler if that will do.
 //!
-//! A call takes both tables, of any lengths. Where nothing else writes them, tables are sound after a [`clear`] and
+//! A call takes both tables, of any lengths. If nothing else writes them, tables are sound after a [`clear`] and
 //! after each call from then on. A refused call leaves tables and listing as they were; only [`load`] keeps the lines
 //! before the one that it refused.
 //!
@@ -67,11 +67,11 @@ pub fn check(samples: &[u32], octants: &[u32]) -> bool {
 /// # Errors
 /// The first of these that is so; both tables are as they were then:
 /// - [`Refusal::TooShort`] (1) if a table is shorter than its header;
-/// - [`Refusal::Unsound`] (2) where the tables are not sound;
+/// - [`Refusal::Unsound`] (2) if the tables are not sound;
 /// - [`Refusal::Code`] (4) if a code is over [`MOST_CODE`](crate::numbers::MOST_CODE);
-/// - [`Refusal::KnownTag`] (5) where a sample of the set has the tag;
-/// - [`Refusal::NoRow`] (6) where no sample row is unused;
-/// - [`Refusal::NoOctants`] (7) where there are too few octant rows for the set with the sample.
+/// - [`Refusal::KnownTag`] (5) if a sample of the set has the tag;
+/// - [`Refusal::NoRow`] (6) if no sample row is unused;
+/// - [`Refusal::NoOctants`] (7) if there are too few octant rows for the set with the sample.
 ///
 /// ```
 /// use hubeltxa::{lent, numbers, Refusal};
@@ -105,8 +105,8 @@ pub fn add(samples: &mut [u32], octants: &mut [u32], tag: u32, codes: [u32; 3]) 
 /// # Errors
 /// The first of these that is so; both tables are as they were then:
 /// - [`Refusal::TooShort`] (1) if a table is shorter than its header;
-/// - [`Refusal::Unsound`] (2) where the tables are not sound;
-/// - [`Refusal::UnknownTag`] (8) where no sample of the set has the tag.
+/// - [`Refusal::Unsound`] (2) if the tables are not sound;
+/// - [`Refusal::UnknownTag`] (8) if no sample of the set has the tag.
 ///
 /// ```
 /// use hubeltxa::{lent, numbers, Refusal};
@@ -135,15 +135,15 @@ pub fn remove(samples: &mut [u32], octants: &mut [u32], tag: u32) -> Result<(), 
 /// # Errors
 /// The first of these that is so; both tables are as they were then, and `taken` is 0:
 /// - [`Refusal::TooShort`] (1) if a table is shorter than its header;
-/// - [`Refusal::Unsound`] (2) where the tables are not sound;
-/// - [`Refusal::Header`] (11) where the header is not good.
+/// - [`Refusal::Unsound`] (2) if the tables are not sound;
+/// - [`Refusal::Header`] (11) if the header is not good.
 ///
 /// Otherwise the first of these that is so of the first line that is refused; the lines before it stay in
 /// the set, and `taken` is how many they are:
-/// - [`Refusal::Line`] (12) where the line is not good;
-/// - [`Refusal::KnownTag`] (5) where a sample of the set, or of a line before it, has the tag;
-/// - [`Refusal::NoRow`] (6) where no sample row is unused;
-/// - [`Refusal::NoOctants`] (7) where there are too few octant rows for the set with the sample.
+/// - [`Refusal::Line`] (12) if the line is not good;
+/// - [`Refusal::KnownTag`] (5) if a sample of the set, or of a line before it, has the tag;
+/// - [`Refusal::NoRow`] (6) if no sample row is unused;
+/// - [`Refusal::NoOctants`] (7) if there are too few octant rows for the set with the sample.
 ///
 /// ```
 /// use hubeltxa::numbers::{sample_tag, COUNT_COLUMNS, LINE_LENGTH, TITLE};
@@ -177,7 +177,7 @@ pub fn load(samples: &mut [u32], octants: &mut [u32], sheet: &[u8]) -> Result<u3
 /// Lists the tags of the samples in a ball, in the order of the samples, from the listing's first word on;
 /// the words after them stay as they were. The tables are only read.
 ///
-/// Centre and radius are taken as codes, by the rule of [`codes`](crate::codes). A sample is in the ball where d² < r²:
+/// Centre and radius are taken as codes, by the rule of [`codes`](crate::codes). A sample is in the ball if d² < r²:
 /// d² is the sum of the three squared differences between its codes and the centre's, r the radius as a
 /// code.
 ///
@@ -191,7 +191,7 @@ pub fn load(samples: &mut [u32], octants: &mut [u32], sheet: &[u8]) -> Result<u3
 /// The first of these that is so; the listing is as it was then:
 /// - [`Refusal::TooShort`] (1) if a table is shorter than its header;
 /// - [`Refusal::OutOfRange`] (9) if a channel of the centre or the radius is out of range;
-/// - [`Refusal::NoRoom`] (13) where the listing is shorter than all that is in the ball.
+/// - [`Refusal::NoRoom`] (13) if the listing is shorter than all that is in the ball.
 ///
 /// ```
 /// use hubeltxa::{lent, Listed, Refusal};
@@ -246,14 +246,14 @@ pub fn ball<'a>(
 /// Lists the tags of the samples in a box, in the order of the samples, as [`ball`] lists those in a ball: what
 /// is said there of the listing and of tables that are not sound holds here.
 ///
-/// The low and the high colour are taken as codes, by the rule of [`codes`](crate::codes). A sample is in the box where
+/// The low and the high colour are taken as codes, by the rule of [`codes`](crate::codes). A sample is in the box if
 /// low <= code <= high in all three channels.
 ///
 /// # Errors
 /// The first of these that is so; the listing is as it was then:
 /// - [`Refusal::TooShort`] (1) if a table is shorter than its header;
 /// - [`Refusal::OutOfRange`] (9) if a channel of either colour is out of range, or low is above high in one, as codes;
-/// - [`Refusal::NoRoom`] (13) where the listing is shorter than all that is in the box.
+/// - [`Refusal::NoRoom`] (13) if the listing is shorter than all that is in the box.
 ///
 /// ```
 /// use hubeltxa::{lent, Listed, Refusal};
@@ -305,8 +305,8 @@ pub fn box_<'a>(
     unless_refused(number, Listed { tags: &listing[..listed as usize], entered, measured })
 }
 
-/// Finds the sample that is nearest to a centre, of those in the ball of this radius, or none where the ball
-/// holds none: the least d² < r², as [`ball`] has them, and the first in the order of the samples where several
+/// Finds the sample that is nearest to a centre, of those in the ball of this radius, or none if the ball
+/// holds none: the least d² < r², as [`ball`] has them, and the first in the order of the samples if several
 /// have it. The tables are only read.
 ///
 /// The call does not ask whether the tables are sound, which would cost more than the query. On tables that

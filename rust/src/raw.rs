@@ -38,7 +38,7 @@ extern "C" {
     ///
     /// # Safety
     /// `name` must be good for reads of `name_len` bytes and `line` for writes of `line_len`; the
-    /// two may not overlap, and neither may be null, not even where its length is 0.
+    /// two may not overlap, and neither may be null, not even if its length is 0.
     pub fn hbx_line(
         tag: u32,
         red: u32,
@@ -50,11 +50,11 @@ extern "C" {
         line_len: usize,
     ) -> u32;
 
-    /// Looks up a reel name: where in the sheet it starts, and its length, both 0 where there is
+    /// Looks up a reel name: where in the sheet it starts, and its length, both 0 if there is
     /// none; see [`name`](crate::name).
     ///
     /// # Safety
-    /// `sheet` must be good for reads of `sheet_len` bytes, and not null, not even where that is
+    /// `sheet` must be good for reads of `sheet_len` bytes, and not null, not even if that is
     /// 0. The other pointers must be aligned and good for writes. No two of the three may overlap.
     pub fn hbx_name(sheet: *const u8, sheet_len: usize, tag: u32, start: *mut usize, length: *mut usize);
 
@@ -62,15 +62,15 @@ extern "C" {
     ///
     /// # Safety
     /// `samples` must be good for reads and writes of `samples_len` words and `octants` of
-    /// `octants_len`; the two may not overlap. Each must be aligned and not null, even where its
+    /// `octants_len`; the two may not overlap. Each must be aligned and not null, even if its
     /// length is 0.
     pub fn hbx_clear(samples: *mut u32, samples_len: usize, octants: *mut u32, octants_len: usize, bucket: u32) -> u32;
 
-    /// 1 where the tables are sound, 0 where not; see [`check`](crate::lent::check). A length is in words.
+    /// 1 if the tables are sound, 0 if not; see [`check`](crate::lent::check). A length is in words.
     ///
     /// # Safety
     /// `samples` must be good for reads of `samples_len` words and `octants` of `octants_len`. Each
-    /// must be aligned and not null, even where its length is 0.
+    /// must be aligned and not null, even if its length is 0.
     pub fn hbx_check(samples: *const u32, samples_len: usize, octants: *const u32, octants_len: usize) -> u32;
 
     /// Adds a sample; see [`add`](crate::lent::add). A length is in words.
@@ -99,7 +99,7 @@ extern "C" {
     ///
     /// # Safety
     /// As of [`hbx_clear`]. `sheet` must be good for reads of `sheet_len` bytes, and not null, not
-    /// even where that is 0; `taken` must be aligned and good for writes. No two of the four may
+    /// even if that is 0; `taken` must be aligned and good for writes. No two of the four may
     /// overlap.
     pub fn hbx_load(
         samples: *mut u32,
@@ -115,7 +115,7 @@ extern "C" {
     ///
     /// # Safety
     /// `samples` must be good for reads of `samples_len` words, `octants` of `octants_len`, and
-    /// `listing` for reads and writes of `listing_len`; each must be aligned and not null, even where
+    /// `listing` for reads and writes of `listing_len`; each must be aligned and not null, even if
     /// its length is 0. The last three pointers must be aligned and good for writes. What is written
     /// may not overlap anything else.
     pub fn hbx_ball(
@@ -160,7 +160,7 @@ extern "C" {
     ///
     /// # Safety
     /// `samples` must be good for reads of `samples_len` words and `octants` of `octants_len`; each
-    /// must be aligned and not null, even where its length is 0. The last three pointers must be
+    /// must be aligned and not null, even if its length is 0. The last three pointers must be
     /// aligned and good for writes. What is written may not overlap anything else.
     pub fn hbx_near(
         samples: *const u32,

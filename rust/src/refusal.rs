@@ -39,10 +39,10 @@ pub enum Refusal {
     KnownTag = 5,
     /// No sample row is unused. Remove samples, or make room for more, up to
     /// [`MOST_SAMPLES`](crate::numbers::MOST_SAMPLES): [`reserve`](crate::SampleSet::reserve) in a set, a longer sample
-    /// table where it is lent.
+    /// table if it is lent.
     NoRow = 6,
     /// Too few octant rows for the set with the sample. Make room for more: [`reserve`](crate::SampleSet::reserve) in a
-    /// set, a longer octant table where it is lent. Or clear with a larger bucket size and load again.
+    /// set, a longer octant table if it is lent. Or clear with a larger bucket size and load again.
     NoOctants = 7,
     /// No sample of the set has the tag. Nothing to do: it is not there.
     UnknownTag = 8,
@@ -138,7 +138,7 @@ impl From<Refusal> for u32 {
 
 /// What a refused load gives: why, and how many lines were taken before it.
 ///
-/// Where any were taken, the same sheet again is refused at line 0, whose tag is known by then: go on with a sheet of
+/// If any were taken, the same sheet again is refused at line 0, whose tag is known by then: go on with a sheet of
 /// the lines from [`line`](RefusedLoad::line) on, or clear the set and load anew.
 ///
 /// ```
@@ -166,7 +166,7 @@ pub struct RefusedLoad {
 }
 
 impl RefusedLoad {
-    /// The line that was refused, counted from 0; none where the tables or the header were, and no line was looked at.
+    /// The line that was refused, counted from 0; none if the tables or the header were, and no line was looked at.
     ///
     /// ```
     /// let mut set = hubeltxa::SampleSet::for_samples(100, 16)?;
@@ -190,7 +190,7 @@ impl Display for RefusedLoad {
 
 impl Error for RefusedLoad {}
 
-/// What a call gave, where its number says that it accepted.
+/// What a call gave, if its number says that it accepted.
 pub(crate) fn unless_refused<T>(number: u32, given: T) -> Result<T, Refusal> {
     match number {
         0 => Ok(given),

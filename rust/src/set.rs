@@ -27,7 +27,7 @@ pub struct Sample {
 ///
 /// Only the library's calls write the tables, and [`reserve`](SampleSet::reserve) puts zeros after them, so they are
 /// always sound: no method here gives [`TooShort`](Refusal::TooShort) or [`Unsound`](Refusal::Unsound). A query takes
-/// the listing as a `Vec`, which it lengthens where it has fewer words than the set has samples, so none gives
+/// the listing as a `Vec`, which it lengthens if it has fewer words than the set has samples, so none gives
 /// [`NoRoom`](Refusal::NoRoom) either, and each is one pass. Lend the same `Vec` again and again: it is lengthened no
 /// more than the set grows.
 ///
@@ -35,7 +35,7 @@ pub struct Sample {
 /// [`remove`](SampleSet::remove) and [`load`](SampleSet::load) look at every word of both tables, and need less than
 /// 80,000 bytes of stack (measured, not proved).
 ///
-/// Two sets are equal where they have the same samples in the same sequence, bucket size, and rows; their tables are
+/// Two sets are equal if they have the same samples in the same sequence, bucket size, and rows; their tables are
 /// then the same, word by word.
 ///
 /// ```
@@ -193,7 +193,7 @@ impl SampleSet {
         self.len() == 0
     }
 
-    /// The bucket size: an octant is split where it holds more samples than this and its side is over 1.
+    /// The bucket size: an octant is split if it holds more samples than this and its side is over 1.
     ///
     /// ```
     /// assert_eq!(hubeltxa::SampleSet::for_samples(100, 16)?.bucket(), 16);
@@ -213,7 +213,7 @@ impl SampleSet {
         (self.samples.len() - numbers::SAMPLE_HEADER) / numbers::SAMPLE_ROW
     }
 
-    /// How many octants the set's tree has; 0 where the set is empty.
+    /// How many octants the set's tree has; 0 if the set is empty.
     ///
     /// ```
     /// let mut set = hubeltxa::SampleSet::for_samples(100, 1)?;
@@ -323,9 +323,9 @@ impl SampleSet {
     /// # Errors
     /// The first of these that is so; the set is as it was then:
     /// - [`Refusal::Code`] (4) if a code is over [`MOST_CODE`](numbers::MOST_CODE);
-    /// - [`Refusal::KnownTag`] (5) where a sample of the set has the tag;
-    /// - [`Refusal::NoRow`] (6) where there is no room for another sample;
-    /// - [`Refusal::NoOctants`] (7) where there is not for its octants.
+    /// - [`Refusal::KnownTag`] (5) if a sample of the set has the tag;
+    /// - [`Refusal::NoRow`] (6) if there is no room for another sample;
+    /// - [`Refusal::NoOctants`] (7) if there is not for its octants.
     ///
     /// ```
     /// use hubeltxa::{numbers::MOST_CODE, Refusal, SampleSet};
@@ -345,7 +345,7 @@ impl SampleSet {
     /// Removes the sample with a tag. The others keep their order.
     ///
     /// # Errors
-    /// [`Refusal::UnknownTag`] (8) where no sample of the set has the tag; the set is as it was then.
+    /// [`Refusal::UnknownTag`] (8) if no sample of the set has the tag; the set is as it was then.
     ///
     /// ```
     /// use hubeltxa::{Refusal, SampleSet};
@@ -364,15 +364,15 @@ impl SampleSet {
     /// were taken: all of them. The reel names are checked and not kept; [`name`](crate::name) finds them in the sheet.
     ///
     /// # Errors
-    /// [`Refusal::Header`] (11) where the header is not good, or the sheet not as long as it says; nothing is taken
+    /// [`Refusal::Header`] (11) if the header is not good, or the sheet not as long as it says; nothing is taken
     /// then.
     ///
     /// Otherwise the first of these that is so of the first line that is refused; the lines before it stay in the set,
     /// and `taken` is how many they are:
-    /// - [`Refusal::Line`] (12) where the line is not good;
-    /// - [`Refusal::KnownTag`] (5) where a sample of the set, or of a line before it, has the tag;
-    /// - [`Refusal::NoRow`] (6) where there is no room for another sample;
-    /// - [`Refusal::NoOctants`] (7) where there is not for its octants.
+    /// - [`Refusal::Line`] (12) if the line is not good;
+    /// - [`Refusal::KnownTag`] (5) if a sample of the set, or of a line before it, has the tag;
+    /// - [`Refusal::NoRow`] (6) if there is no room for another sample;
+    /// - [`Refusal::NoOctants`] (7) if there is not for its octants.
     ///
     /// ```
     /// use hubeltxa::numbers::{COUNT_COLUMNS, LINE_LENGTH, TITLE};
@@ -397,7 +397,7 @@ impl SampleSet {
 
     /// Lists the samples in a ball. The tags are written from the listing's first word on; the words after them stay.
     ///
-    /// Centre and radius are taken as codes, by the rule of [`codes`](crate::codes). A sample is in the ball where d² <
+    /// Centre and radius are taken as codes, by the rule of [`codes`](crate::codes). A sample is in the ball if d² <
     /// r²: d² is the sum of the three squared differences between its codes and the centre's, r the radius as a code.
     ///
     /// # Errors
@@ -426,7 +426,7 @@ impl SampleSet {
     /// Lists the samples in a box. The tags are written from the listing's first word on; the words after them stay.
     ///
     /// The low and the high colour are taken as codes, by the rule of [`codes`](crate::codes). A sample is in the box
-    /// where low <= code <= high in all three channels.
+    /// if low <= code <= high in all three channels.
     ///
     /// # Errors
     /// [`Refusal::OutOfRange`] (9) if a channel of either colour is out of range, or low is above high in one, as
@@ -450,8 +450,8 @@ impl SampleSet {
         lent::box_(&self.samples, &self.octants, low, high, self.lengthened(listing))
     }
 
-    /// Finds the sample that is nearest to a centre, of those in the ball of this radius, or none where the ball holds
-    /// none: the least d² < r², as [`ball`](SampleSet::ball) has them, and the first in the order of the samples where
+    /// Finds the sample that is nearest to a centre, of those in the ball of this radius, or none if the ball holds
+    /// none: the least d² < r², as [`ball`](SampleSet::ball) has them, and the first in the order of the samples if
     /// several have it.
     ///
     /// # Errors
@@ -482,7 +482,7 @@ impl SampleSet {
     }
 }
 
-/// Zeros after the words, where there are fewer words than that.
+/// Zeros after the words, if there are fewer words than that.
 fn lengthen(words: &mut Vec<u32>, length: usize) {
     words.resize(words.len().max(length), 0);
 }
