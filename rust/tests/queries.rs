@@ -250,7 +250,8 @@ fn floats_between_codes() {
                 let at = below(6, &mut state);
                 compared.query(&tables, &with_float(&any_box(&tables.samples, &mut state), at, v), &long);
             }
-            let flat = Gesture::Box { low: [v + float(1) / 4.0; 3], high: [v; 3] };
+            let above = (v + float(1) / 4.0).min(f32::from_bits(GREATEST_CHANNEL));
+            let flat = Gesture::Box { low: [above; 3], high: [v; 3] };
             assert_eq!(compared.query(&tables, &flat, &long).number, 0);
         }
     }

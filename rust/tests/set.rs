@@ -252,9 +252,9 @@ fn bucket_sizes_that_are_refused() {
 /// Sets are equal by samples, their sequence, bucket size and rows, however they came to be so.
 #[test]
 fn equal_sets() {
-    let of = |rows: usize, bucket: u32, tags: &[u32]| {
+    let of = |rows: usize, bucket: u32, tags: &[Tag]| {
         let mut set = SampleSet::for_samples(rows, bucket).unwrap();
-        tags.iter().for_each(|&tag| set.add(tag, [tag, 0, 0]).unwrap());
+        tags.iter().for_each(|&tag| set.add(tag, [tag as u32, 0, 0]).unwrap());
         set
     };
     let mut set = of(10, 1, &[9, 1, 2, 3]);

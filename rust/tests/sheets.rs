@@ -65,10 +65,10 @@ fn look_up(sheet: &[u8], tag: Tag) -> &[u8] {
 }
 
 /// 0, each power of ten and one less, each power of two and one less and one more, the greatest.
-fn edges() -> Vec<u32> {
-    let tens = (0..10).map(|k| 10_u32.pow(k)).flat_map(|p| [p - 1, p]);
-    let twos = (0..32).map(|k| 1 << k).flat_map(|p: u32| [p - 1, p, p + 1]);
-    tens.chain(twos).chain([u32::MAX - 1, u32::MAX]).collect()
+fn edges() -> Vec<Tag> {
+    let tens = (0..).map_while(|k| Tag::checked_pow(10, k)).flat_map(|p| [p - 1, p]);
+    let twos = (0..Tag::BITS).map(|k| 1 << k).flat_map(|p: Tag| [p - 1, p, p + 1]);
+    tens.chain(twos).chain([MOST_TAG - 1, MOST_TAG]).collect()
 }
 
 /// A tag, at an edge or anywhere; half of them small, so that some are equal.
@@ -187,9 +187,10 @@ fn codes_written() {
             assert_eq!(write(7, codes, b"A001", LINE_LENGTH).0, if code > MOST_CODE { 4 } else { 0 });
         }
     }
-    for red in edges() {
+    let edges = edges().into_iter().map(|edge| edge as u32);
+    for red in edges.clone() {
         for green in [0, 9, MOST_CODE, MOST_CODE + 1, u32::MAX] {
-            edges().into_iter().for_each(|blue| _ = write(7, [red, green, blue], b"A001", LINE_LENGTH));
+            edges.clone().for_each(|blue| _ = write(7, [red, green, blue], b"A001", LINE_LENGTH));
         }
     }
 }
@@ -235,7 +236,7 @@ fn lines_written() {
         let mut codes = [0; 3].map(|_: u32| any_code(s));
         let mut name = any_name(s);
         match below(16, s) {
-            0 => codes[below(3, s)] = any_tag(s),
+            0 => codes[below(3, s)] = any_tag(s) as u32,
             1 => name[0] = below(256, s) as u8,
             2 => name.push(b'!'),
             _ => {}

@@ -26,8 +26,9 @@ pub fn brief(answer: &Answer) -> String {
 /// else and have neighbours.
 pub fn through_c(samples: &[u32], octants: &[u32], query: &Gesture, lent: &[Tag]) -> Answer {
     const HELD: u32 = 0xA5A5_A5A5;
+    const HELD_TAG: Tag = 0xA5A5_A5A5;
     const HELD_TWICE: u64 = 0xA5A5_A5A5_A5A5_A5A5;
-    let (mut words, mut distances) = ([HELD; 7], [HELD_TWICE; 3]);
+    let (mut words, mut tags, mut distances) = ([HELD; 7], [HELD_TAG; 3], [HELD_TWICE; 3]);
     let mut listing = Lent::new(lent);
     let number = {
         let [_, one, _, two, _, three, _] = &mut words;
@@ -43,18 +44,19 @@ pub fn through_c(samples: &[u32], octants: &[u32], query: &Gesture, lent: &[Tag]
                     raw::hbx_box(s, s_len, o, o_len, r, g, b, x, y, z, l, l_len, one, two, three)
                 }
                 Gesture::Near { centre: [r, g, b], radius } => {
-                    raw::hbx_near(s, s_len, o, o_len, r, g, b, radius, one, two, &mut distances[1])
+                    raw::hbx_near(s, s_len, o, o_len, r, g, b, radius, one, &mut tags[1], &mut distances[1])
                 }
             }
         }
     };
     let [before, one, between, two, again, three, after] = words;
     assert_eq!([before, between, again, after], [HELD; 4], "a word beside the reports is written");
+    assert_eq!([tags[0], tags[2]], [HELD_TAG; 2], "a word beside the tag is written");
     assert_eq!([distances[0], distances[2]], [HELD_TWICE; 2], "a word beside the distance is written");
     let listing = listing.left().expect("words beside the listing are written").to_vec();
     if let Gesture::Near { .. } = query {
         assert!(one <= 1, "found is {one}");
-        return Answer { number, found: one == 1, tag: two, d2: distances[1], listing, ..Answer::default() };
+        return Answer { number, found: one == 1, tag: tags[1], d2: distances[1], listing, ..Answer::default() };
     }
     Answer { number, listed: one, entered: two, measured: three, listing, ..Answer::default() }
 }
