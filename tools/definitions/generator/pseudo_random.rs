@@ -32,7 +32,7 @@ pub fn tag(random: &mut Random) -> Tag {
     match random.below(12) {
         0 => 0,
         1 => MOST_TAG,
-        2 => random.word(),
+        2 => random.word() as Tag,
         _ => random.below(16) as Tag,
     }
 }
@@ -78,7 +78,7 @@ fn listing(random: &mut Random, set: &Bin) -> Vec<Tag> {
         3 => count.saturating_sub(1),
         _ => random.below(14),
     };
-    (0..length).map(|_| random.one_of(&[0, 1, 7, 0xDEAD_BEEF, u32::MAX])).collect()
+    (0..length).map(|_| random.one_of(&[0, 1, 7, 0xDEAD_BEEF, MOST_TAG])).collect()
 }
 
 /// A float of the code, now and then an odd or a bad one.

@@ -63,7 +63,7 @@ fn sheets() -> Vec<Sequence> {
 /// The eight colours about the root's middle: the planes between octants part them.
 fn planes() -> Vec<Sequence> {
     let about = |k: u32| [32_767 + (k & 1), 32_767 + (k >> 1 & 1), 32_767 + (k >> 2)];
-    let adds: Vec<Call> = (0..8).map(|k| add((k + 5) % 8, about(k))).collect();
+    let adds: Vec<Call> = (0..8).map(|k| add((k as Tag + 5) % 8, about(k))).collect();
     let mut queries = Vec::new();
     for k in [0, 3, 6] {
         let colour = shown_panel(about(k));
@@ -84,7 +84,7 @@ fn last_depth() -> Vec<Sequence> {
         for channel in 0..3 {
             let mut other = colour;
             other[channel] ^= 1;
-            adds.extend([add(2 * channel as u32, colour), add(2 * channel as u32 + 1, other)]);
+            adds.extend([add(2 * channel as Tag, colour), add(2 * channel as Tag + 1, other)]);
         }
         let mut queries: Vec<Call> =
             [0, 1, 2, MOST_RADIUS].into_iter().flat_map(|radius| both(colour, radius, 7)).collect();
