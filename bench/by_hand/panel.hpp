@@ -10,14 +10,14 @@ struct PanelColour {
 
 inline u32 codes_of(const PanelColour& panel, Colour& colour) {
   for (float v : panel.v)
-    if (!(v >= 0 && v < 1)) return 9;
-  for (int i = 0; i < 3; i++) colour.c[i] = (u32)(panel.v[i] * 65536);
+    if (!good_channel(v)) return 9;
+  for (int i = 0; i < 3; i++) colour.c[i] = code_of(panel.v[i]);
   return 0;
 }
 
 inline u32 floats_of(const Colour& colour, PanelColour& panel) {
   for (u32 code : colour.c)
-    if (code > 65535) return 4;
-  for (int i = 0; i < 3; i++) panel.v[i] = (float)colour.c[i] / 65536;
+    if (code > MOST_CODE) return 4;
+  for (int i = 0; i < 3; i++) panel.v[i] = channel(colour.c[i]);
   return 0;
 }

@@ -40,8 +40,8 @@ struct Part {
 
 inline bool read_line(const uint8_t* at, Sample& sample, size_t& length) {
   u64 tag, red, green, blue;
-  if (!read_number(at, 10, 4294967295, tag) || !read_number(at + 10, 6, 65535, red) ||
-      !read_number(at + 16, 6, 65535, green) || !read_number(at + 22, 6, 65535, blue) || at[28] != ' ' ||
+  if (!read_number(at, 10, 4294967295, tag) || !read_number(at + 10, 6, MOST_CODE, red) ||
+      !read_number(at + 16, 6, MOST_CODE, green) || !read_number(at + 22, 6, MOST_CODE, blue) || at[28] != ' ' ||
       at[61] != '\n')
     return false;
   sample = {(u32)tag, {{(u32)red, (u32)green, (u32)blue}}};
@@ -90,7 +90,7 @@ inline void put_number(uint8_t* end, u32 number) {
 // Writes a line over the first bytes lent, and gives the number that the library gives.
 inline u32 put_line(const Sample& sample, const uint8_t* name, size_t length, uint8_t* line, size_t line_length) {
   for (u32 code : sample.colour.c)
-    if (code > 65535) return 4;
+    if (code > MOST_CODE) return 4;
   if (length < 1 || length > 32) return 10;
   for (size_t i = 0; i < length; i++)
     if (!in_name(name[i])) return 10;

@@ -14,7 +14,7 @@ static Way asking(std::string what, const Tables& t, const Query& q) {
 }
 
 Rows measure_dearest() {
-  const Box everything = {{{0, 0, 0}}, {{65535, 65535, 65535}}};
+  const Box everything = {{{0, 0, 0}}, {{MOST_CODE, MOST_CODE, MOST_CODE}}};
   const Tables sound = longest(build_rows(scattered()));
   const Tables surface = longest(build_rows(on_surface(), 1)), far = longest(build_rows(equally_far(), 1));
   const Tables anywhere = pointing_anywhere(), through = leading_through_surface(), before = leading_before_corner();

@@ -25,7 +25,7 @@ static std::vector<Line> any_lines() {
   std::vector<Line> lines(LINES);
   for (auto& line : lines) {
     line.sample.tag = any_number(32, g);
-    for (auto& c : line.sample.colour.c) c = any_number(16, g);
+    for (auto& c : line.sample.colour.c) c = any_number(CODE_BITS, g);
     line.name = any_name(g);
   }
   return lines;
@@ -65,7 +65,7 @@ static void compare_refusals(const Line& line) {
     return number;
   };
   Sample wrong = line.sample;
-  wrong.colour.c[1] = 65536;
+  wrong.colour.c[1] = MOST_CODE + 1;
   must(both(line.sample, line.name, LINE) == 0 && both(wrong, line.name, LINE) == 4, "other numbers");
   must(both(line.sample, "", LINE) == 10 && both(line.sample, "A 1", LINE) == 10, "other numbers");
   must(both(line.sample, std::string(33, 'A'), LINE) == 10, "other numbers");
@@ -157,9 +157,10 @@ static Rows race_conversions() {
   append(rows, race_conversion("codes to floats", colours, shown, library::floats, floats_of));
   Colour a, b;
   PanelColour c, d;
-  for (float v : {-0.5f, 1.0f, NAN, INFINITY})
+  for (float v : {-0.5f, PAST_CHANNELS, NAN, INFINITY})
     must(library::codes({{0, v, 0}}, a) == 9 && codes_of({{0, v, 0}}, b) == 9, "a float is not refused");
-  must(library::floats({{0, 65536, 0}}, c) == 4 && floats_of({{0, 65536, 0}}, d) == 4, "a code is not refused");
+  must(library::floats({{0, MOST_CODE + 1, 0}}, c) == 4 && floats_of({{0, MOST_CODE + 1, 0}}, d) == 4,
+       "a code is not refused");
   return rows;
 }
 

@@ -67,7 +67,7 @@ inline Tables pointing_anywhere() {
   t.samples[1] = BUCKET;
   for (u32 i = 0; i < SAMPLES; i++) {
     u32* words = &t.samples[2 + 5 * i];
-    for (int j = 0; j < 4; j++) words[j] = g() % 65536;
+    for (int j = 0; j < 4; j++) words[j] = g() % CODES;
     words[4] = g() % SAMPLES;
   }
   for (u32 i = 0; i < OCTANT_ROWS; i++)
@@ -119,7 +119,7 @@ inline Tables leading_through_surface() {
 
 // To every octant that is closer to the middle than the samples, which all have one colour in a corner.
 inline Tables leading_before_corner() {
-  const Colour corner = {{65535, 65535, 65535}};
+  const Colour corner = {{MOST_CODE, MOST_CODE, MOST_CODE}};
   const u64 d2 = distance(corner, MIDDLE);
   Tables t = pointing_anywhere();
   for (u32 i = 0; i < SAMPLES; i++) std::copy(corner.c, corner.c + 3, &t.samples[3 + 5 * i]);

@@ -20,8 +20,8 @@ struct Box {
 struct Nearest : Ball {};
 
 // The greatest radius: nothing is farther.
-const u32 ANY_RADIUS = 131071;
-const u32 ROOT_LOW[3] = {0, 0, 0}, ROOT_SIDE = 65536;
+const u32 ANY_RADIUS = MOST_RADIUS;
+const u32 ROOT_LOW[3] = {0, 0, 0}, ROOT_SIDE = CODES;
 // The row where none is near enough.
 const u32 NONE = UINT32_MAX;
 
@@ -32,7 +32,7 @@ inline Box box_like(const Ball& ball) {
   for (int i = 0; i < 3; i++) {
     const u32 x = ball.centre.c[i];
     b.low.c[i] = x < h ? 0 : x - h;
-    b.high.c[i] = std::min(x + h, 65535u);
+    b.high.c[i] = std::min(x + h, MOST_CODE);
   }
   return b;
 }
@@ -55,7 +55,6 @@ struct Asked {
 // A ball or a box gives how many it lists; nearest gives the row, where tags are the rows, or none.
 struct Library : Asked {
   using Asked::Asked;
-  static float channel(u32 code) { return code / 65536.0f; }
 
   u32 ask(const Ball& q) {
     const u32* c = q.centre.c;

@@ -18,7 +18,7 @@ inline Colours scattered(size_t n = SAMPLES) {
   std::mt19937 g(7);
   Colours colours(n);
   for (auto& x : colours)
-    for (auto& c : x.c) c = g() % 65536;
+    for (auto& c : x.c) c = g() % CODES;
   return colours;
 }
 
@@ -26,7 +26,7 @@ inline Colours scattered(size_t n = SAMPLES) {
 template <class Generator>
 Colour beside(const Colour& x, std::normal_distribution<double>& off, Generator& g) {
   Colour near;
-  for (int i = 0; i < 3; i++) near.c[i] = (u32)std::clamp(x.c[i] + off(g), 0.0, 65535.0);
+  for (int i = 0; i < 3; i++) near.c[i] = (u32)std::clamp(x.c[i] + off(g), 0.0, (double)MOST_CODE);
   return near;
 }
 
