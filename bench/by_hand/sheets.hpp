@@ -6,8 +6,6 @@
 
 #include "build.hpp"
 
-const size_t HEADER = 15, LINE = 62, NAME = 29;
-
 // The number at the right of so many columns, if it is at most `most`.
 inline bool read_number(const uint8_t* at, size_t columns, u64 most, u64& number) {
   const uint8_t* end = at + columns;
@@ -40,18 +38,21 @@ struct Part {
 
 inline bool read_line(const uint8_t* at, Sample& sample, size_t& length) {
   u64 tag, red, green, blue;
-  if (!read_number(at, 10, 4294967295, tag) || !read_number(at + 10, 6, MOST_CODE, red) ||
-      !read_number(at + 16, 6, MOST_CODE, green) || !read_number(at + 22, 6, MOST_CODE, blue) || at[28] != ' ' ||
-      at[61] != '\n')
+  if (!read_number(at, TAG_COLUMNS, UINT32_MAX, tag) ||
+      !read_number(at + code_start(0), CODE_COLUMNS, MOST_CODE, red) ||
+      !read_number(at + code_start(1), CODE_COLUMNS, MOST_CODE, green) ||
+      !read_number(at + code_start(2), CODE_COLUMNS, MOST_CODE, blue) || at[NAME_START - 1] != ' ' ||
+      at[LINE_LENGTH - 1] != '\n')
     return false;
   sample = {(u32)tag, {{(u32)red, (u32)green, (u32)blue}}};
-  length = name_length(at + NAME, at + 61);
+  length = name_length(at + NAME_START, at + NAME_START + NAME_COLUMNS);
   return length > 0;
 }
 
 inline bool read_header(const std::vector<uint8_t>& sheet, u64& count) {
-  return sheet.size() >= HEADER && memcmp(sheet.data(), "SWATCHES", 8) == 0 && sheet[14] == '\n' &&
-         read_number(&sheet[8], 6, 999999, count) && sheet.size() == HEADER + LINE * count;
+  return sheet.size() >= HEADER_LENGTH && memcmp(sheet.data(), TITLE, TITLE_LENGTH) == 0 &&
+         sheet[HEADER_LENGTH - 1] == '\n' && read_number(&sheet[TITLE_LENGTH], COUNT_COLUMNS, MOST_LINES, count) &&
+         sheet.size() == line_start(count);
 }
 
 // The samples of the lines before the first that is not good; none where the header is not.
@@ -62,7 +63,7 @@ inline std::vector<Sample> read_sheet(const std::vector<uint8_t>& sheet) {
   samples.reserve(count);
   Sample sample;
   size_t length;
-  for (u64 k = 0; k < count && read_line(&sheet[HEADER + LINE * k], sample, length); k++) samples.push_back(sample);
+  for (u64 k = 0; k < count && read_line(&sheet[line_start(k)], sample, length); k++) samples.push_back(sample);
   return samples;
 }
 
@@ -72,11 +73,11 @@ inline Part find_name(const std::vector<uint8_t>& sheet, u32 tag) {
   Part found{0, 0};
   if (!read_header(sheet, count)) return found;
   for (u64 k = 0; k < count; k++) {
-    const size_t at = HEADER + LINE * k;
+    const size_t at = line_start(k);
     Sample sample;
     size_t length;
     if (!read_line(&sheet[at], sample, length)) return {0, 0};
-    if (found.length == 0 && sample.tag == tag) found = {at + NAME, length};
+    if (found.length == 0 && sample.tag == tag) found = {at + NAME_START, length};
   }
   return found;
 }
@@ -91,14 +92,14 @@ inline void put_number(uint8_t* end, u32 number) {
 inline u32 put_line(const Sample& sample, const uint8_t* name, size_t length, uint8_t* line, size_t line_length) {
   for (u32 code : sample.colour.c)
     if (code > MOST_CODE) return 4;
-  if (length < 1 || length > 32) return 10;
+  if (length < 1 || length > NAME_COLUMNS) return 10;
   for (size_t i = 0; i < length; i++)
     if (!in_name(name[i])) return 10;
-  if (line_length < LINE) return 13;
-  memset(line, ' ', LINE - 1);
-  put_number(line + 10, sample.tag);
-  for (int i = 0; i < 3; i++) put_number(line + 16 + 6 * i, sample.colour.c[i]);
-  memcpy(line + NAME, name, length);
-  line[LINE - 1] = '\n';
+  if (line_length < LINE_LENGTH) return 13;
+  memset(line, ' ', LINE_LENGTH - 1);
+  put_number(line + TAG_COLUMNS, sample.tag);
+  for (int i = 0; i < 3; i++) put_number(line + code_start(i) + CODE_COLUMNS, sample.colour.c[i]);
+  memcpy(line + NAME_START, name, length);
+  line[LINE_LENGTH - 1] = '\n';
   return 0;
 }

@@ -118,7 +118,7 @@ static void race_refusals(const Race& how, const Samples& samples) {
   const Sheet sheet = sheet_of(samples);
   Sheet bad = sheet, twice = sheet;
   bad[bad.size() - 1] = ' ';
-  print_line(&twice[HEADER + LINE * last], {samples[0].tag, samples[last].colour}, "A001");
+  print_line(&twice[line_start(last)], {samples[0].tag, samples[last].colour}, "A001");
   must(read_sheet(sheet).size() == n && read_sheet(bad).size() == last, "C++ reads other lines");
   must(no_tag_twice(read_sheet(sheet)) && !no_tag_twice(read_sheet(twice)), "C++ finds other tags");
 

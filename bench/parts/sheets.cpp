@@ -35,8 +35,8 @@ static std::vector<Line> any_lines() {
 template <class Write>
 static void write_all(const std::vector<Line>& lines, Sheet& sheet, Write write) {
   for (size_t i = 0; i < lines.size(); i++) {
-    uint8_t* at = &sheet[HEADER + LINE * i];
-    must(write(lines[i].sample, lines[i].bytes(), lines[i].name.size(), at, LINE) == 0, "a line is refused");
+    uint8_t* at = &sheet[line_start(i)];
+    must(write(lines[i].sample, lines[i].bytes(), lines[i].name.size(), at, LINE_LENGTH) == 0, "a line is refused");
   }
 }
 
@@ -57,19 +57,20 @@ static void compare_lookups(const Sheet& good) {
 // That both refuse the same lines, by the same number.
 static void compare_refusals(const Line& line) {
   auto both = [](const Sample& sample, const std::string& name, size_t lent) {
-    uint8_t ours[LINE] = {}, theirs[LINE] = {};
+    uint8_t ours[LINE_LENGTH] = {}, theirs[LINE_LENGTH] = {};
     const uint8_t* bytes = (const uint8_t*)name.data();
     u32 number = library::line(sample, bytes, name.size(), ours, lent);
-    must(number == put_line(sample, bytes, name.size(), theirs, lent) && memcmp(ours, theirs, LINE) == 0,
+    must(number == put_line(sample, bytes, name.size(), theirs, lent) && memcmp(ours, theirs, LINE_LENGTH) == 0,
          "C++ writes another line");
     return number;
   };
   Sample wrong = line.sample;
   wrong.colour.c[1] = MOST_CODE + 1;
-  must(both(line.sample, line.name, LINE) == 0 && both(wrong, line.name, LINE) == 4, "other numbers");
-  must(both(line.sample, "", LINE) == 10 && both(line.sample, "A 1", LINE) == 10, "other numbers");
-  must(both(line.sample, std::string(33, 'A'), LINE) == 10, "other numbers");
-  must(both(line.sample, line.name, LINE - 1) == 13, "other numbers");
+  const size_t lent = LINE_LENGTH;
+  must(both(line.sample, line.name, lent) == 0 && both(wrong, line.name, lent) == 4, "other numbers");
+  must(both(line.sample, "", lent) == 10 && both(line.sample, "A 1", lent) == 10, "other numbers");
+  must(both(line.sample, std::string(NAME_COLUMNS + 1, 'A'), lent) == 10, "other numbers");
+  must(both(line.sample, line.name, lent - 1) == 13, "other numbers");
 }
 
 // The least tag that no line has.
@@ -102,7 +103,7 @@ static void race_longer_lookups(const Sheet& sheet, const std::vector<Line>& lin
   const u32 absent = absent_tag(lines);
   for (int count : {256, 1024, 4096, 16384, 65536}) {
     Sheet longer = blank_sheet(count);
-    for (int k = 0; k < count; k++) std::copy_n(&sheet[HEADER + LINE * (k % LINES)], LINE, &longer[HEADER + LINE * k]);
+    for (int k = 0; k < count; k++) std::copy_n(&sheet[line_start(k % LINES)], LINE_LENGTH, &longer[line_start(k)]);
     race({"Lookup, a line", (size_t)count, "", WARM_UP, 1, count}, {looking_up("lookup", longer, absent)});
   }
 }
@@ -168,7 +169,7 @@ Rows measure_sheets() {
   const std::vector<Line> lines = any_lines();
   Sheet sheet = blank_sheet(LINES), two = blank_sheet(2);
   write_all(lines, sheet, library::line);
-  std::copy_n(sheet.begin() + HEADER, 2 * LINE, two.begin() + HEADER);
+  std::copy_n(sheet.begin() + HEADER_LENGTH, 2 * LINE_LENGTH, two.begin() + HEADER_LENGTH);
   compare_lookups(two);
   compare_refusals(lines[0]);
   Rows rows = race_lookups(sheet, lines);

@@ -17,7 +17,7 @@ static Bytes stack_of_changes(const Colours& colours, u32 bucket) {
   const u32 last = SAMPLES - 1;
   Tables t = build(samples, bucket);
   Sheet sheet = sheet_of(samples), twice = sheet;
-  print_line(&twice[HEADER + LINE * last], {samples[0].tag, samples[last].colour}, "A001");
+  print_line(&twice[line_start(last)], {samples[0].tag, samples[last].colour}, "A001");
   Bytes bytes;
   took(bytes, [&] { must(library::rebuild(t, SAMPLES) == 0, "a call answers otherwise"); });
   took(bytes, [&] { must(library::check(t) == 1, "a call answers otherwise"); });
