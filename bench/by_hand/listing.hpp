@@ -60,45 +60,45 @@ struct InBox {
   }
 };
 
-// A listing under way: the region, the words that tags go to, and the three reports.
+// A listing under way: the region, where tags go to, and the three reports.
 template <class Region>
 struct Listing {
   const u32 *samples, *octants;
   Region region;
-  u32* out;
+  Tag* out;
   u32 listed, entered, measured;
 };
 
 template <class Region>
 void list_octant(Listing<Region>& q, u32 row, const u32 lo[3], u32 side) {
   q.entered++;
-  const u32 *w = q.octants + 1 + 11 * (size_t)row, *s = q.samples;
+  const u32 *w = octant_row(q.octants, row), *s = q.samples;
   if (q.region.holds(lo, side)) {
-    u32 r = w[0];
-    for (u32 i = 0; i < w[2]; i++) {
-      q.out[q.listed++] = s[2 + 5 * r];
-      r = s[6 + 5 * r];
+    u32 r = octant_first(w);
+    for (u32 i = 0; i < octant_held(w); i++) {
+      q.out[q.listed++] = sample_tag(s, r);
+      r = sample_next(s, r);
     }
     return;
   }
   bool leaf = true;
   for (int k = 0; k < 8; k++)
-    if (w[3 + k]) leaf = false;
+    if (octant_child(w, k)) leaf = false;
   if (leaf) {
-    u32 r = w[0];
-    for (u32 i = 0; i < w[2]; i++) {
-      const u32* x = s + 2 + 5 * r;
-      if (q.region.has(x + 1)) q.out[q.listed++] = x[0];
-      r = x[4];
+    u32 r = octant_first(w);
+    for (u32 i = 0; i < octant_held(w); i++) {
+      const u32* x = sample_row(s, r);
+      if (q.region.has(sample_codes(x))) q.out[q.listed++] = sample_tag(x);
+      r = sample_next(x);
     }
-    q.measured += w[2];
+    q.measured += octant_held(w);
     return;
   }
   const u32 half = side / 2;
   for (int k = 0; k < 8; k++)
-    if (w[3 + k]) {
+    if (octant_child(w, k)) {
       u32 child[3];
       for (int i = 0; i < 3; i++) child[i] = lo[i] + (((k >> i) & 1) ? half : 0);
-      if (q.region.overlaps(child, half)) list_octant(q, w[3 + k], child, half);
+      if (q.region.overlaps(child, half)) list_octant(q, octant_child(w, k), child, half);
     }
 }

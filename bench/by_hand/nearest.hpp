@@ -21,18 +21,18 @@ inline bool closer(const Search& q, u64 d2, u32 octant) { return d2 < q.d2 || (d
 
 // Goes to the child that is closest to the centre first, and then across its planes to the others.
 inline void search_octant(Search& q, u32 row, const u32 lo[3], u32 side) {
-  const u32* w = q.octants + 1 + 11 * (size_t)row;
-  if (side == 1 || w[2] <= q.samples[1]) {
-    u32 r = w[0];
-    for (u32 i = 0; i < w[2]; i++) {
-      const u32* x = q.samples + 2 + 5 * (size_t)r;
-      u64 d = sq((long)x[1] - q.c[0]) + sq((long)x[2] - q.c[1]) + sq((long)x[3] - q.c[2]);
+  const u32* w = octant_row(q.octants, row);
+  if (side == 1 || octant_held(w) <= bucket_size(q.samples)) {
+    u32 r = octant_first(w);
+    for (u32 i = 0; i < octant_held(w); i++) {
+      const u32 *x = sample_row(q.samples, r), *c = sample_codes(x);
+      u64 d = sq((long)c[0] - q.c[0]) + sq((long)c[1] - q.c[1]) + sq((long)c[2] - q.c[2]);
       if (closer(q, d, row)) {
         q.d2 = d;
         q.octant = row;
         q.row = r + 1;
       }
-      r = x[4];
+      r = sample_next(x);
     }
     return;
   }
@@ -46,7 +46,7 @@ inline void search_octant(Search& q, u32 row, const u32 lo[3], u32 side) {
     more[i] = std::max(a, b) - std::min(a, b);
   }
   for (u32 m = 0; m < 8; m++) {
-    const u32 k = first ^ m, child = w[3 + k];
+    const u32 k = first ^ m, child = octant_child(w, k);
     if (child == 0) continue;
     u64 d = near + (m & 1) * more[0] + (m >> 1 & 1) * more[1] + (m >> 2 & 1) * more[2];
     if (closer(q, d, child)) {

@@ -38,13 +38,12 @@ struct Part {
 
 inline bool read_line(const uint8_t* at, Sample& sample, size_t& length) {
   u64 tag, red, green, blue;
-  if (!read_number(at, TAG_COLUMNS, UINT32_MAX, tag) ||
-      !read_number(at + code_start(0), CODE_COLUMNS, MOST_CODE, red) ||
+  if (!read_number(at, TAG_COLUMNS, MOST_TAG, tag) || !read_number(at + code_start(0), CODE_COLUMNS, MOST_CODE, red) ||
       !read_number(at + code_start(1), CODE_COLUMNS, MOST_CODE, green) ||
       !read_number(at + code_start(2), CODE_COLUMNS, MOST_CODE, blue) || at[NAME_START - 1] != ' ' ||
       at[LINE_LENGTH - 1] != '\n')
     return false;
-  sample = {(u32)tag, {{(u32)red, (u32)green, (u32)blue}}};
+  sample = {(Tag)tag, {{(u32)red, (u32)green, (u32)blue}}};
   length = name_length(at + NAME_START, at + NAME_START + NAME_COLUMNS);
   return length > 0;
 }
@@ -68,7 +67,7 @@ inline std::vector<Sample> read_sheet(const std::vector<uint8_t>& sheet) {
 }
 
 // The name in the first line with the tag; the empty part where there is none, or the sheet is not good.
-inline Part find_name(const std::vector<uint8_t>& sheet, u32 tag) {
+inline Part find_name(const std::vector<uint8_t>& sheet, Tag tag) {
   u64 count;
   Part found{0, 0};
   if (!read_header(sheet, count)) return found;
@@ -82,8 +81,8 @@ inline Part find_name(const std::vector<uint8_t>& sheet, u32 tag) {
   return found;
 }
 
-// Writes a number to the left of `end`.
-inline void put_number(uint8_t* end, u32 number) {
+// Writes a number, a tag or a code, to the left of `end`.
+inline void put_number(uint8_t* end, Tag number) {
   do *--end = '0' + number % 10;
   while (number /= 10);
 }

@@ -22,7 +22,7 @@ struct Built {
   }
   u32 keep(const Tables& t) {
     if (lengths == LONGEST) copy_padded(t, room);
-    return t.octants[0];
+    return octant_count(t.octants.data());
   }
   // The tables of fewer samples, as long as these.
   Tables padded(const Samples& fewer) const {
@@ -38,17 +38,17 @@ struct Changed {
   size_t most;
   Sample sample;
 
-  Changed(const Tables& full, const Sample& x) : t(full), most(full.samples[0]), sample(x) {}
+  Changed(const Tables& full, const Sample& x) : t(full), most(sample_count(full.samples.data())), sample(x) {}
   void add() { must(library::add(t, sample) == 0, "an add is refused"); }
   void remove() { must(library::remove(t, sample.tag) == 0, "a remove is refused"); }
   void fill() {
-    if (t.samples[0] < most) add();
+    if (sample_count(t.samples.data()) < most) add();
   }
   // The sample that was removed is at the end now, and another one first.
   void fill_and_take_first() {
     fill();
-    const u32* w = &t.samples[2];
-    sample = {w[0], {{w[1], w[2], w[3]}}};
+    const u32 *s = t.samples.data(), *c = sample_codes(s, 0);
+    sample = {sample_tag(s, 0), {{c[0], c[1], c[2]}}};
   }
 };
 
@@ -70,7 +70,7 @@ Rows race_changes(const Race& how, const Samples& samples, Lengths lengths) {
 }
 
 static bool no_tag_twice(const Samples& samples) {
-  std::unordered_set<u32> tags(2 * samples.size());
+  std::unordered_set<Tag> tags(2 * samples.size());
   for (auto& sample : samples)
     if (!tags.insert(sample.tag).second) return false;
   return true;
@@ -97,7 +97,7 @@ Rows race_loads(const Race& how, const Samples& samples, Lengths lengths) {
 }
 
 static u32 octants(const Samples& samples, size_t n) {
-  return build({samples.begin(), samples.begin() + n}, BUCKET).octants[0];
+  return octant_count(build({samples.begin(), samples.begin() + n}, BUCKET).octants.data());
 }
 
 // The samples in another sequence: the last is one that an octant is there for.
@@ -127,10 +127,10 @@ static void race_refusals(const Race& how, const Samples& samples) {
   Tables t = full, u = full, v = full, w = full;
   u32 half = n / 2;
   while (octants(samples, half + 1) == octants(samples, half)) half++;
-  v.octants.resize(full.octants.size() - 11);
-  w.octants.resize(1 + 11 * octants(samples, half));
+  v.octants.resize(octant_words(octants(samples, n) - 1));
+  w.octants.resize(octant_words(octants(samples, half)));
   race(how, {
-                {CPP, "parse and build", [&] { sink = build(read_sheet(sheet), BUCKET).octants[0]; }},
+                {CPP, "parse and build", [&] { sink = octant_count(build(read_sheet(sheet), BUCKET).octants.data()); }},
                 loading("refused by 12 at the last line", t, bad, {12, last}, true),
                 loading("refused by 5 at the last line", u, twice, {5, last}, true),
                 loading("refused by 7 at the last line", v, sheet, {7, last}, true),
@@ -139,7 +139,7 @@ static void race_refusals(const Race& how, const Samples& samples) {
                  [&] {
                    const Samples lines = read_sheet(sheet);
                    must(no_tag_twice(lines), "a tag twice");
-                   sink = build(lines, BUCKET).octants[0];
+                   sink = octant_count(build(lines, BUCKET).octants.data());
                  }},
                 {CPP, "parse alone", [&] { sink = read_sheet(sheet).size(); }},
             });

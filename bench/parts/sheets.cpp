@@ -49,7 +49,7 @@ static void compare_lookups(const Sheet& good) {
       Sheet sheet = good;
       sheet[at] = byte;
       const Samples samples = read_sheet(sheet);
-      const u32 tag = samples.empty() ? 0 : samples[0].tag;
+      const Tag tag = samples.empty() ? 0 : samples[0].tag;
       must(same(library::name(sheet, tag), find_name(sheet, tag)), "C++ finds another name");
     }
 }
@@ -74,19 +74,19 @@ static void compare_refusals(const Line& line) {
 }
 
 // The least tag that no line has.
-static u32 absent_tag(const std::vector<Line>& lines) {
-  u32 tag = 0;
+static Tag absent_tag(const std::vector<Line>& lines) {
+  Tag tag = 0;
   auto has = [&](const Line& line) { return line.sample.tag == tag; };
   while (std::any_of(lines.begin(), lines.end(), has)) tag++;
   return tag;
 }
 
-static Way looking_up(const std::string& what, const Sheet& sheet, u32 absent) {
+static Way looking_up(const std::string& what, const Sheet& sheet, Tag absent) {
   return {LIBRARY, what, [&sheet, absent] { must(library::name(sheet, absent).length == 0, "found"); }};
 }
 
 static Rows race_lookups(const Sheet& sheet, const std::vector<Line>& lines) {
-  const u32 absent = absent_tag(lines);
+  const Tag absent = absent_tag(lines);
   for (auto& line : lines)
     must(same(library::name(sheet, line.sample.tag), find_name(sheet, line.sample.tag)), "C++ finds another name");
   return race({"Sheets read", LINES, ""},
@@ -100,7 +100,7 @@ static Rows race_lookups(const Sheet& sheet, const std::vector<Line>& lines) {
 // The lookup in sheets of fewer and of more lines, the same ones again and again; the time is that of a line: details.
 // (Of a small sheet that is read again and again the processor remembers the branches.)
 static void race_longer_lookups(const Sheet& sheet, const std::vector<Line>& lines) {
-  const u32 absent = absent_tag(lines);
+  const Tag absent = absent_tag(lines);
   for (int count : {256, 1024, 4096, 16384, 65536}) {
     Sheet longer = blank_sheet(count);
     for (int k = 0; k < count; k++) std::copy_n(&sheet[line_start(k % LINES)], LINE_LENGTH, &longer[line_start(k)]);

@@ -8,7 +8,7 @@ using Bytes = std::vector<std::optional<size_t>>;
 using library::Loaded;
 
 // Tags that differ in their highest bits alone: where tags are compared digit by digit, lowest first, these part last.
-static u32 high_tag(u32 row) { return row << 20; }
+static Tag high_tag(u32 row) { return row * (MOST_TAG / SAMPLES + 1); }
 
 static void took(Bytes& bytes, std::function<void()> call) { bytes.push_back(stack_of(call)); }
 

@@ -32,7 +32,7 @@ static Rows race_builds(const Kind& kind) {
   must(library::rebuild(t, SAMPLES) == 0 && same_tables(t, full), "the library builds other tables");
   must(library::rebuild(u, SAMPLES) == 0 && same_tables(u, v), "the library builds other long tables");
   std::vector<Way> ways = {
-      {CPP, "build", [&] { sink = build(samples, BUCKET).octants[0]; }},
+      {CPP, "build", [&] { sink = octant_count(build(samples, BUCKET).octants.data()); }},
       {LIBRARY, "build", [&] { must(library::rebuild(t, SAMPLES) == 0, "refused"); }},
   };
   for (auto& way : others_building(colours)) ways.push_back(way);
@@ -48,7 +48,7 @@ static Rows race_builds(const Kind& kind) {
 static void clear_by_hand(Tables& t) {
   std::fill(t.samples.begin(), t.samples.end(), 0);
   std::fill(t.octants.begin(), t.octants.end(), 0);
-  t.samples[1] = t.bucket;
+  set_sample_header(t.samples.data(), 0, t.bucket);
 }
 
 static Rows race_clears(const std::string& what, const Tables& full) {
@@ -59,7 +59,7 @@ static Rows race_clears(const std::string& what, const Tables& full) {
                                        {CPP, "zeros, and the bucket size",
                                         [&] {
                                           clear_by_hand(u);
-                                          sink = u.octants[0];
+                                          sink = octant_count(u.octants.data());
                                         }},
                                        {LIBRARY, what, [&] { must(library::clear(t) == 0, "refused"); }},
                                    });

@@ -54,24 +54,28 @@ inline Colours equally_far() {
   return colours;
 }
 
-const u32 OCTANT_ROWS = (OCTANT_WORDS - 1) / 11;
-
-inline u32* octant(Tables& t, u32 row) { return &t.octants[1 + 11 * (size_t)row]; }
+inline u32* octant(Tables& t, u32 row) { return octant_row(t.octants.data(), row); }
 
 // Tables as long as a set can need, whose words point everywhere: next words and first rows to any sample row, child
 // words to any octant row, and counts as large as they get.
 inline Tables pointing_anywhere() {
   std::mt19937 g(11);
   Tables t{std::vector<u32>(SAMPLE_WORDS), std::vector<u32>(OCTANT_WORDS), BUCKET};
-  t.samples[0] = t.octants[0] = UINT32_MAX;
-  t.samples[1] = BUCKET;
+  set_sample_header(t.samples.data(), UINT32_MAX, BUCKET);
+  set_octant_count(t.octants.data(), UINT32_MAX);
   for (u32 i = 0; i < SAMPLES; i++) {
-    u32* words = &t.samples[2 + 5 * i];
-    for (int j = 0; j < 4; j++) words[j] = g() % CODES;
-    words[4] = g() % SAMPLES;
+    const Tag tag = g() % CODES;
+    u32 codes[3];
+    for (auto& c : codes) c = g() % CODES;
+    set_sample(t.samples.data(), i, tag, codes);
+    set_sample_next(t.samples.data(), i, g() % SAMPLES);
   }
-  for (u32 i = 0; i < OCTANT_ROWS; i++)
-    for (int j = 0; j < 11; j++) octant(t, i)[j] = g() % (j < 2 ? SAMPLES : OCTANT_ROWS);
+  for (u32 i = 0; i < MOST_OCTANTS; i++) {
+    set_octant_first(octant(t, i), g() % SAMPLES);
+    set_octant_last(octant(t, i), g() % SAMPLES);
+    set_octant_held(octant(t, i), g() % MOST_OCTANTS);
+    for (int k = 0; k < 8; k++) set_octant_child(octant(t, i), k, g() % MOST_OCTANTS);
+  }
   return t;
 }
 
@@ -81,10 +85,9 @@ inline Tables pointing_anywhere() {
 template <class Wanted>
 u32 lead_on(Tables& t, u32& rows, const Colour& low, u32 side, Wanted wanted) {
   const u32 row = rows++, half = side / 2;
-  u32* words = octant(t, row);
-  words[2] = BUCKET;
+  set_octant_held(octant(t, row), BUCKET);
   for (u32 k = 0; k < 8; k++) {
-    words[3 + k] = 0;
+    set_octant_child(octant(t, row), k, 0);
     Colour child = low;
     u64 closest = 0, farthest = 0;
     for (int i = 0; i < 3; i++) {
@@ -93,9 +96,9 @@ u32 lead_on(Tables& t, u32& rows, const Colour& low, u32 side, Wanted wanted) {
       closest += sq(from > 0 ? from : to < 0 ? to : 0);
       farthest += sq(std::max(std::labs(from), std::labs(to)));
     }
-    if (half > 0 && rows < OCTANT_ROWS && wanted(closest, farthest)) {
-      words[2] = UINT32_MAX;
-      words[3 + k] = lead_on(t, rows, child, half, wanted);
+    if (half > 0 && rows < MOST_OCTANTS && wanted(closest, farthest)) {
+      set_octant_held(octant(t, row), UINT32_MAX);
+      set_octant_child(octant(t, row), k, lead_on(t, rows, child, half, wanted));
     }
   }
   return row;
@@ -105,7 +108,7 @@ template <class Wanted>
 void lead_everywhere(Tables& t, Wanted wanted) {
   u32 rows = 0;
   lead_on(t, rows, {{0, 0, 0}}, ROOT_SIDE, wanted);
-  must(rows == OCTANT_ROWS, "octant rows are left");
+  must(rows == MOST_OCTANTS, "octant rows are left");
 }
 
 // To each octant that the ball's surface goes through: a ball enters them all, and measures samples in those that
@@ -122,7 +125,8 @@ inline Tables leading_before_corner() {
   const Colour corner = {{MOST_CODE, MOST_CODE, MOST_CODE}};
   const u64 d2 = distance(corner, MIDDLE);
   Tables t = pointing_anywhere();
-  for (u32 i = 0; i < SAMPLES; i++) std::copy(corner.c, corner.c + 3, &t.samples[3 + 5 * i]);
+  u32* samples = t.samples.data();
+  for (u32 i = 0; i < SAMPLES; i++) set_sample(samples, i, sample_tag(samples, i), corner.c);
   lead_everywhere(t, [=](u64 closest, u64) { return closest < d2; });
   return t;
 }
@@ -130,9 +134,9 @@ inline Tables leading_before_corner() {
 // To one octant again and again.
 inline Tables leading_back() {
   Tables t = pointing_anywhere();
-  for (u32 i = 0; i < OCTANT_ROWS; i++) {
-    octant(t, i)[2] = UINT32_MAX;
-    std::fill(octant(t, i) + 3, octant(t, i) + 11, 1);
+  for (u32 i = 0; i < MOST_OCTANTS; i++) {
+    set_octant_held(octant(t, i), UINT32_MAX);
+    for (int k = 0; k < 8; k++) set_octant_child(octant(t, i), k, 1);
   }
   return t;
 }

@@ -28,7 +28,7 @@ inline u32 add(Tables& t, const Sample& x) {
   return hbx_add(t.samples.data(), t.samples.size(), t.octants.data(), t.octants.size(), x.tag, c[0], c[1], c[2]);
 }
 
-inline u32 remove(Tables& t, u32 tag) {
+inline u32 remove(Tables& t, Tag tag) {
   return hbx_remove(t.samples.data(), t.samples.size(), t.octants.data(), t.octants.size(), tag);
 }
 
@@ -45,7 +45,7 @@ inline Loaded load(Tables& t, const std::vector<uint8_t>& sheet) {
   return a;
 }
 
-inline Part name(const std::vector<uint8_t>& sheet, u32 tag) {
+inline Part name(const std::vector<uint8_t>& sheet, Tag tag) {
   Part found;
   hbx_name(sheet.data(), sheet.size(), tag, &found.start, &found.length);
   return found;

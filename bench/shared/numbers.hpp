@@ -1,15 +1,19 @@
-// The numbers of codes, panel floats and sheets by name, and where in a line each thing is. Nothing else in bench/ has
-// them built in: if a sheet's line or the range of floats changes, this file does. The hand-written C++ is measured
-// through these functions, so they must cost nothing.
+// The numbers of codes, panel floats, sheets and tables by name, and where in a line or a table each thing is. Nothing
+// else in bench/ has them built in: if the layout, a sheet's line or the range of floats changes, this file does. The
+// hand-written C++ is measured through these functions, so they must cost nothing.
 #pragma once
 
 #include <cstddef>
 #include <cstdint>
+#include <limits>
 
 #include "hubeltxa.h"
 
 using u32 = uint32_t;
 using u64 = uint64_t;
+
+using Tag = u32;
+const Tag MOST_TAG = std::numeric_limits<Tag>::max();
 
 // An octree is as deep as a code has bits.
 const u32 CODE_BITS = 16, CODES = 1u << CODE_BITS, MOST_CODE = CODES - 1;
@@ -38,3 +42,63 @@ static_assert(LINE_LENGTH == HBX_LINE_LENGTH);
 
 // Where line k starts. A sheet of k lines ends there.
 constexpr size_t line_start(size_t k) { return HEADER_LENGTH + LINE_LENGTH * k; }
+
+// The words of tables with so many rows.
+constexpr size_t sample_words(size_t rows) { return HBX_SAMPLE_WORDS(rows); }
+constexpr size_t octant_words(size_t rows) { return HBX_OCTANT_WORDS(rows); }
+
+// The most samples of a set, and octant rows that always are enough for them.
+const u32 MOST_SAMPLES = 4096, OCTANTS_A_SAMPLE = 17, MOST_OCTANTS = OCTANTS_A_SAMPLE * MOST_SAMPLES;
+
+// The words of a header and of a row, and how many they are.
+enum SampleHeader { SAMPLE_COUNT_AT, BUCKET_AT, SAMPLE_HEADER };
+enum SampleRow { TAG_AT, RED_AT, GREEN_AT, BLUE_AT, NEXT_AT, SAMPLE_ROW };
+enum OctantHeader { OCTANT_COUNT_AT, OCTANT_HEADER };
+enum OctantRow { FIRST_AT, LAST_AT, HELD_AT, CHILDREN_AT, OCTANT_ROW = CHILDREN_AT + 8 };
+static_assert(sample_words(0) == SAMPLE_HEADER && sample_words(1) == SAMPLE_HEADER + SAMPLE_ROW);
+static_assert(octant_words(0) == OCTANT_HEADER && octant_words(1) == OCTANT_HEADER + OCTANT_ROW);
+
+// The header of a sample table.
+inline u32 sample_count(const u32* samples) { return samples[SAMPLE_COUNT_AT]; }
+inline u32 bucket_size(const u32* samples) { return samples[BUCKET_AT]; }
+inline void set_sample_header(u32* samples, u32 count, u32 bucket) {
+  samples[SAMPLE_COUNT_AT] = count;
+  samples[BUCKET_AT] = bucket;
+}
+
+// A sample row by its number.
+inline u32 sample_place(u32 row) { return SAMPLE_HEADER + SAMPLE_ROW * row; }
+inline Tag sample_tag(const u32* samples, u32 row) { return samples[sample_place(row) + TAG_AT]; }
+inline const u32* sample_codes(const u32* samples, u32 row) { return &samples[sample_place(row) + RED_AT]; }
+inline u32 sample_next(const u32* samples, u32 row) { return samples[sample_place(row) + NEXT_AT]; }
+inline void set_sample(u32* samples, u32 row, Tag tag, const u32 codes[3]) {
+  u32* words = &samples[sample_place(row)];
+  words[TAG_AT] = tag;
+  for (int i = 0; i < 3; i++) words[RED_AT + i] = codes[i];
+}
+inline void set_sample_next(u32* samples, u32 row, u32 next) { samples[sample_place(row) + NEXT_AT] = next; }
+
+// The same, read through a pointer to the row. Both ways are there because the compiler makes other code of each, and
+// the hand-written C++ is measured.
+inline const u32* sample_row(const u32* samples, size_t row) { return samples + SAMPLE_HEADER + SAMPLE_ROW * row; }
+inline Tag sample_tag(const u32* row) { return row[TAG_AT]; }
+inline const u32* sample_codes(const u32* row) { return row + RED_AT; }
+inline u32 sample_next(const u32* row) { return row[NEXT_AT]; }
+
+// The header of an octant table.
+inline u32 octant_count(const u32* octants) { return octants[OCTANT_COUNT_AT]; }
+inline void set_octant_count(u32* octants, u32 count) { octants[OCTANT_COUNT_AT] = count; }
+
+// An octant row, to be read or written: its first and last sample row, how many samples it holds, and the octant row of
+// child k, 0 if there is none.
+template <class Word>
+Word* octant_row(Word* octants, size_t row) {
+  return octants + OCTANT_HEADER + OCTANT_ROW * row;
+}
+inline u32 octant_first(const u32* row) { return row[FIRST_AT]; }
+inline u32 octant_held(const u32* row) { return row[HELD_AT]; }
+inline u32 octant_child(const u32* row, u32 k) { return row[CHILDREN_AT + k]; }
+inline void set_octant_first(u32* row, u32 first) { row[FIRST_AT] = first; }
+inline void set_octant_last(u32* row, u32 last) { row[LAST_AT] = last; }
+inline void set_octant_held(u32* row, u32 held) { row[HELD_AT] = held; }
+inline void set_octant_child(u32* row, u32 k, u32 child) { row[CHILDREN_AT + k] = child; }

@@ -40,15 +40,18 @@ inline Box box_like(const Ball& ball) {
 // What the last query reported. The listing is one that is lent again and again.
 struct Asked {
   const Tables& t;
-  std::vector<u32> listing;
-  u32 number = 0, listed = 0, entered = 0, measured = 0, found = 0, tag = 0;
+  std::vector<Tag> listing;
+  u32 number = 0, listed = 0, entered = 0, measured = 0, found = 0;
+  Tag tag = 0;
   u64 d2 = 0;
 
-  Asked(const Tables& tables, size_t words) : t(tables), listing(words) {}
+  Asked(const Tables& tables, size_t room) : t(tables), listing(room) {}
+  // Of a set whose tags are the rows.
   std::vector<u32> rows() const { return {listing.begin(), listing.begin() + listed}; }
   bool same(const Asked& o) const {
     return number == 0 && o.number == 0 && listed == o.listed && entered == o.entered && measured == o.measured &&
-           found == o.found && tag == o.tag && d2 == o.d2 && rows() == o.rows();
+           found == o.found && tag == o.tag && d2 == o.d2 &&
+           std::equal(listing.begin(), listing.begin() + listed, o.listing.begin());
   }
 };
 
@@ -74,7 +77,7 @@ struct Library : Asked {
     const u32* c = q.centre.c;
     number = hbx_near(t.samples.data(), t.samples.size(), t.octants.data(), t.octants.size(), channel(c[0]),
                       channel(c[1]), channel(c[2]), channel(q.radius), &found, &tag, &d2);
-    return found ? tag : NONE;
+    return found ? (u32)tag : NONE;
   }
 };
 
@@ -98,8 +101,8 @@ struct ByHand : Asked {
     Search q{t.samples.data(), t.octants.data(), {c[0], c[1], c[2]}, x.r2(), 0, 0};
     search_octant(q, 0, ROOT_LOW, ROOT_SIDE);
     found = q.row > 0;
-    tag = found ? t.samples[2 + 5 * (size_t)(q.row - 1)] : 0;
+    tag = found ? sample_tag(t.samples.data(), q.row - 1) : 0;
     d2 = found ? q.d2 : 0;
-    return found ? tag : NONE;
+    return found ? (u32)tag : NONE;
   }
 };

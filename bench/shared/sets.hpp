@@ -7,8 +7,9 @@
 
 #include "../by_hand/listing.hpp"
 
-const int SAMPLES = 4096, BUCKET = 16;
-const size_t SAMPLE_WORDS = 2 + 5 * 4096, OCTANT_WORDS = 1 + 11 * 69632;
+const int SAMPLES = MOST_SAMPLES, BUCKET = 16;
+// The words of tables as long as a set can need.
+const size_t SAMPLE_WORDS = sample_words(MOST_SAMPLES), OCTANT_WORDS = octant_words(MOST_OCTANTS);
 
 using Colours = std::vector<Colour>;
 using Samples = std::vector<Sample>;
@@ -47,10 +48,10 @@ struct Kind {
 const Kind KINDS[] = {{"scattered", scattered}, {"clustered", clustered}};
 
 // Tags that are the rows; tags spread over 32 bits, no two equal.
-inline u32 row_tag(u32 row) { return row; }
-inline u32 spread_tag(u32 row) { return row * 0x9E3779B1u; }
+inline Tag row_tag(u32 row) { return row; }
+inline Tag spread_tag(u32 row) { return row * 0x9E3779B1u; }
 
-inline Samples tagged(const Colours& colours, u32 (*tag_of)(u32)) {
+inline Samples tagged(const Colours& colours, Tag (*tag_of)(u32)) {
   Samples samples;
   for (u32 i = 0; i < colours.size(); i++) samples.push_back({tag_of(i), colours[i]});
   return samples;

@@ -12,8 +12,8 @@ using Sheet = std::vector<uint8_t>;
 inline void print_line(uint8_t* at, const Sample& sample, const std::string& name) {
   char text[LINE_LENGTH + 1];
   const u32* c = sample.colour.c;
-  snprintf(text, sizeof text, "%*u%*u%*u%*u %-*s\n", TAG_COLUMNS, sample.tag, CODE_COLUMNS, c[0], CODE_COLUMNS, c[1],
-           CODE_COLUMNS, c[2], NAME_COLUMNS, name.c_str());
+  snprintf(text, sizeof text, "%*llu%*u%*u%*u %-*s\n", TAG_COLUMNS, (unsigned long long)sample.tag, CODE_COLUMNS, c[0],
+           CODE_COLUMNS, c[1], CODE_COLUMNS, c[2], NAME_COLUMNS, name.c_str());
   memcpy(at, text, LINE_LENGTH);
 }
 
