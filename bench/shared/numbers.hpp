@@ -1,6 +1,6 @@
-// The numbers of codes, panel floats, sheets and tables by name, and where in a line or a table each thing is. Nothing
-// else in bench/ has them built in: if the layout, a sheet's line or the range of floats changes, this file does. The
-// hand-written C++ is measured through these functions, so they must cost nothing.
+// The numbers of codes, panel floats, sheets and tables by name, the header's under its names, and where in a line or a
+// table each thing is. Nothing else in bench/ has them built in: if the layout, a sheet's line or the range of floats
+// changes, this file does. The hand-written C++ is measured through these functions, so they must cost nothing.
 #pragma once
 
 #include <cstddef>
@@ -16,10 +16,11 @@ using Tag = u32;
 const Tag MOST_TAG = std::numeric_limits<Tag>::max();
 
 // An octree is as deep as a code has bits.
-const u32 CODE_BITS = 16, CODES = 1u << CODE_BITS, MOST_CODE = CODES - 1;
+const u32 CODE_BITS = 16, CODES = 1u << CODE_BITS, MOST_CODE = HBX_MOST_CODE;
+static_assert(MOST_CODE == CODES - 1);
 
 // Panel floats. A radius is taken and shown by the same scale.
-const u32 SCALE = CODES, CHANNEL_LIMIT = 1, RADIUS_LIMIT = 2, MOST_RADIUS = RADIUS_LIMIT * SCALE - 1;
+const u32 SCALE = HBX_SCALE, CHANNEL_LIMIT = HBX_CHANNEL_LIMIT, MOST_RADIUS = HBX_MOST_RADIUS;
 // The least float that is too great for a channel.
 const float PAST_CHANNELS = CHANNEL_LIMIT;
 
@@ -28,17 +29,15 @@ inline u32 code_of(float v) { return (u32)(v * SCALE); }
 inline float channel(u32 code) { return (float)code / SCALE; }
 
 // A sheet's header: the title, the number of lines, a newline.
-const char TITLE[] = "SWATCHES";
-const int COUNT_COLUMNS = 6;
+const char TITLE[] = HBX_TITLE;
+const int COUNT_COLUMNS = HBX_COUNT_COLUMNS;
 const u32 MOST_LINES = 999999;  // what so many columns can say
-const size_t TITLE_LENGTH = sizeof TITLE - 1, HEADER_LENGTH = TITLE_LENGTH + COUNT_COLUMNS + 1;
-static_assert(HEADER_LENGTH == HBX_HEADER_LENGTH);
+const size_t TITLE_LENGTH = sizeof TITLE - 1, HEADER_LENGTH = HBX_HEADER_LENGTH;
 
 // A line: the tag, three codes, a blank, the name, a newline.
-const int TAG_COLUMNS = 10, CODE_COLUMNS = 6, NAME_COLUMNS = 32;
+const int TAG_COLUMNS = HBX_TAG_COLUMNS, CODE_COLUMNS = HBX_CODE_COLUMNS, NAME_COLUMNS = HBX_NAME_COLUMNS;
 constexpr size_t code_start(size_t i) { return TAG_COLUMNS + CODE_COLUMNS * i; }
-const size_t NAME_START = code_start(3) + 1, LINE_LENGTH = NAME_START + NAME_COLUMNS + 1;
-static_assert(LINE_LENGTH == HBX_LINE_LENGTH);
+const size_t NAME_START = HBX_NAME_START, LINE_LENGTH = HBX_LINE_LENGTH;
 
 // Where line k starts. A sheet of k lines ends there.
 constexpr size_t line_start(size_t k) { return HEADER_LENGTH + LINE_LENGTH * k; }
@@ -48,15 +47,19 @@ constexpr size_t sample_words(size_t rows) { return HBX_SAMPLE_WORDS(rows); }
 constexpr size_t octant_words(size_t rows) { return HBX_OCTANT_WORDS(rows); }
 
 // The most samples of a set, and octant rows that always are enough for them.
-const u32 MOST_SAMPLES = 4096, OCTANTS_A_SAMPLE = 17, MOST_OCTANTS = OCTANTS_A_SAMPLE * MOST_SAMPLES;
+const u32 MOST_SAMPLES = HBX_MOST_SAMPLES, MOST_OCTANTS = HBX_OCTANTS_A_SAMPLE * MOST_SAMPLES;
 
 // The words of a header and of a row, and how many they are.
-enum SampleHeader { SAMPLE_COUNT_AT, BUCKET_AT, SAMPLE_HEADER };
-enum SampleRow { TAG_AT, RED_AT, GREEN_AT, BLUE_AT, NEXT_AT, SAMPLE_ROW };
-enum OctantHeader { OCTANT_COUNT_AT, OCTANT_HEADER };
-enum OctantRow { FIRST_AT, LAST_AT, HELD_AT, CHILDREN_AT, OCTANT_ROW = CHILDREN_AT + 8 };
-static_assert(sample_words(0) == SAMPLE_HEADER && sample_words(1) == SAMPLE_HEADER + SAMPLE_ROW);
-static_assert(octant_words(0) == OCTANT_HEADER && octant_words(1) == OCTANT_HEADER + OCTANT_ROW);
+enum SampleHeader { SAMPLE_COUNT_AT = HBX_AT_COUNT, BUCKET_AT = HBX_AT_BUCKET, SAMPLE_HEADER = HBX_SAMPLE_HEADER };
+enum SampleRow { TAG_AT = HBX_AT_TAG, RED_AT = HBX_AT_RED, NEXT_AT = HBX_AT_NEXT, SAMPLE_ROW = HBX_SAMPLE_ROW };
+enum OctantHeader { OCTANT_COUNT_AT = HBX_AT_COUNT, OCTANT_HEADER = HBX_OCTANT_HEADER };
+enum OctantRow {
+  FIRST_AT = HBX_AT_FIRST,
+  LAST_AT = HBX_AT_LAST,
+  HELD_AT = HBX_AT_SAMPLES,
+  CHILDREN_AT = HBX_AT_CHILDREN,
+  OCTANT_ROW = HBX_OCTANT_ROW
+};
 
 // The header of a sample table.
 inline u32 sample_count(const u32* samples) { return samples[SAMPLE_COUNT_AT]; }
