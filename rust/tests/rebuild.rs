@@ -1,7 +1,7 @@
 //! Tables rebuilt from the samples in the first rows, compared with the straight scan call by call.
 //!
 //! `hbx_rebuild` is no call of the library: it builds as add, remove and load do at their end, so that this can be
-//! measured and compared. It needs `rt staticlib rebuild` at the root of the repository first.
+//! measured and compared. It needs `make parts` at the root of the repository first.
 
 #[path = "../../oracle/straight_scan.rs"]
 #[allow(dead_code)]

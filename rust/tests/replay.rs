@@ -1,7 +1,7 @@
 //! Scripts of calls: whole days that the driver runs in one call, compared with the straight scan.
 //!
 //! `hbx_replay` is no call of the library: it carries the whole-day theorem to running code, since what it promises is
-//! the theorem's conclusion. It needs `rt staticlib replay` at the root of the repository first. Each answer, every
+//! the theorem's conclusion. It needs `make parts` at the root of the repository first. Each answer, every
 //! listing word and every word of both tables must be what the straight scan says, and no word beside them is written.
 //!
 //! The ignored test runs more and longer scripts: `make test-long`.
