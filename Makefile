@@ -1,6 +1,7 @@
 # make demo         the main job, from nothing: build, load a sheet, print its order, key a picture by it
 # make              prove every crate, and build lib/libhubeltxa.a and target/bin/walklist
 # make lib          lib/libhubeltxa.a, for include/hubeltxa.h
+# make parts        what the tests and the benchmark use: the library, the archives of rebuild and replay, walklist
 # make test         the whole test, from nothing; its last line is rt's verdict
 # make test-long    all 2^32 floats in each channel, and more tables, calls, queries and sheets, compared with the straight scan
 # make fuzz         random calls and damaged inputs compared with the straight scan, for SECONDS=60; SEED=s again, ROUND=r alone
@@ -24,7 +25,6 @@ demo:
 lib:
 	@tools/build hubeltxa
 
-# What the tests and the benchmark run, besides the library.
 parts:
 	@tools/build hubeltxa rebuild replay walklist
 
@@ -32,12 +32,15 @@ test:
 	@tools/test
 
 test-long: parts
+	@tools/needs cargo cc
 	@cd rust && cargo test --release --offline -- --ignored --show-output
 
 fuzz: lib
+	@tools/needs cargo cc
 	@cd rust && FUZZ_SECONDS=$(or $(SECONDS),60) FUZZ_SEED=$(SEED) FUZZ_ROUND=$(ROUND) cargo test --release --offline --test fuzz
 
 definitions:
+	@tools/needs rt cargo cc
 	@tools/definitions/run
 
 must-fail:
@@ -50,6 +53,7 @@ map:
 	@tools/map > docs/architecture.svg
 
 bench: parts
+	@tools/needs c++
 	@bench/build
 	@target/bench/bench docs
 

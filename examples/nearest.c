@@ -1,4 +1,4 @@
-/* A colour named: the sample of a set that is nearest to a panel colour, where one is near enough; then a
+/* A colour named: the sample of a set that is nearest to a panel colour, if one is near enough; then a
  * tie, which the first in the order of the samples wins, and a refusal of each number. */
 #include <inttypes.h>
 #include <stdio.h>

@@ -14,7 +14,7 @@ static void show(const char *what, uint32_t number, uint32_t expected)
     printf("%2u  %s%s\n", number, what, number == expected ? "" : "  (another was expected)");
 }
 
-/* Clears, and adds; the tables get longer where they have to. */
+/* Clears, and adds; the tables get longer if they have to. */
 static void change(void)
 {
     show("a sample table of one word", hbx_clear(samples, 1, octants, 1, 1), HBX_TOO_SHORT);

@@ -130,7 +130,7 @@ enum {
 #define HBX_SAMPLE_WORDS(rows) (HBX_SAMPLE_HEADER + HBX_SAMPLE_ROW * (size_t)(rows))
 #define HBX_OCTANT_WORDS(rows) (HBX_OCTANT_HEADER + HBX_OCTANT_ROW * (size_t)(rows))
 
-/* If a word stands, from the start of its table or row: samples[HBX_AT_COUNT] is the sample
+/* Where a word stands, from the start of its table or row: samples[HBX_AT_COUNT] is the sample
  * count, and samples[HBX_SAMPLE_WORDS(k) + HBX_AT_TAG] the tag in sample row k.
  */
 enum {                      /* in a header */
@@ -238,8 +238,8 @@ uint32_t hbx_remove(uint32_t *samples, size_t samples_len, uint32_t *octants, si
 /* Adds the samples of a sheet's lines, line by line, up to the first line that is refused; the reel
  * names are checked and not kept. *taken is set to how many lines were taken.
  *
- * Returns 0 if every line is taken; of a sheet with no lines, that is none. If the first of
- * these gives the number, both tables are as they were, and *taken is set to 0:
+ * Returns 0 if every line is taken; a sheet with no lines has none to take. If one of these is so,
+ * the first that is so gives the number, both tables are as they were, and *taken is set to 0:
  *    1  samples_len is under HBX_SAMPLE_HEADER, or octants_len under HBX_OCTANT_HEADER
  *    2  the tables are not sound
  *   11  the header is not good

@@ -20,7 +20,8 @@ const u32 CODE_BITS = 16, CODES = 1u << CODE_BITS, MOST_CODE = HBX_MOST_CODE;
 static_assert(MOST_CODE == CODES - 1);
 
 // Panel floats. A radius is taken and shown by the same scale.
-const u32 SCALE = HBX_SCALE, CHANNEL_LIMIT = HBX_CHANNEL_LIMIT, MOST_RADIUS = HBX_MOST_RADIUS;
+const u32 SCALE = HBX_SCALE, MOST_RADIUS = HBX_MOST_RADIUS;
+const float CHANNEL_LIMIT = HBX_CHANNEL_LIMIT;
 // The least float that is too great for a channel.
 const float PAST_CHANNELS = CHANNEL_LIMIT;
 

@@ -1,4 +1,4 @@
-// Others that answer the same queries: nanoflann and FLANN where they are installed, and a straight scan of all
+// Others that answer the same queries: nanoflann and FLANN if they are installed, and a straight scan of all
 // samples. They take floats, so a sample whose distance is all but the radius may fall on either side, and of two that
 // are all but as far either may be found.
 #pragma once
@@ -18,7 +18,7 @@
 #define HAS_NANOFLANN
 #endif
 
-// bench/build defines this where the library can be linked.
+// bench/build defines this if the library can be linked.
 #ifdef HAS_FLANN
 #include <flann/algorithms/dist.h>
 #include <flann/algorithms/kdtree_single_index.h>
@@ -135,14 +135,14 @@ struct Scan {
     const float r2 = (float)q.r2();
     return list([&](size_t i) { return distance(i, q.centre) < r2; });
   }
-  // A code is in where, less the low one, it is no more than the box is long.
+  // A code is in if, less the low one, it is no more than the box is long.
   u32 ask(const Box& q) {
     const u32 *a = q.low.c, long_x = q.high.c[0] - a[0], long_y = q.high.c[1] - a[1], long_z = q.high.c[2] - a[2];
     return list([&](size_t i) {
       return (int)(x[i] - a[0] <= long_x) & (int)(y[i] - a[1] <= long_y) & (int)(z[i] - a[2] <= long_z);
     });
   }
-  // Block by block: only where one of a block is closer is it looked for.
+  // Block by block: only if one of a block is closer is it looked for.
   u32 ask(const Nearest& q) {
     float best = (float)q.r2();
     u32 row = NONE;

@@ -4,8 +4,8 @@
 //!     key PICTURE --pick X,Y [--pick X,Y ..] RADIUS MATTE
 //!
 //! PICTURE is a PPM (P6). The samples are a sheet's, or the colours of picked pixels, counted from 0 at the top left.
-//! MATTE is written, a PGM (P5): a pixel is white where a ball of this radius around its colour lists any sample, and
-//! black where it lists none.
+//! MATTE is written, a PGM (P5): a pixel is white if a ball of this radius around its colour lists any sample, and
+//! black if it lists none.
 //!
 //! A value of the picture becomes the code value * MOST_CODE / greatest, rounded, so that black is code 0 and white
 //! MOST_CODE: of eight bits that is value * 257, of sixteen the value itself.
@@ -61,7 +61,7 @@ fn from_picks(picture: &Picture, picks: &[&str]) -> Result<SampleSet, String> {
     Ok(set)
 }
 
-/// White where the ball around a pixel's colour lists any sample.
+/// White if the ball around a pixel's colour lists any sample.
 fn matte(picture: &Picture, set: &SampleSet, radius: f32) -> Result<Picture, Refusal> {
     let mut listing = vec![];
     let mut white = |pixel| {

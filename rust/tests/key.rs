@@ -1,7 +1,7 @@
 //! The examples that draw, key and show a picture, run as programs. Each matte is compared with the straight scan's,
 //! pixel by pixel, and `docs/key.png` with what they make, byte for byte.
 //!
-//! `cargo test` builds the examples; where this test is run alone, `cargo build --examples` must go before it, of the
+//! `cargo test` builds the examples; if this test is run alone, `cargo build --examples` must go before it, of the
 //! same profile.
 
 #[path = "../../oracle/straight_scan.rs"]
@@ -33,7 +33,7 @@ fn folder(test: &str) -> PathBuf {
     folder
 }
 
-/// Runs an example in a folder. Gives what it says on standard output where it ends well, and on standard error where
+/// Runs an example in a folder. Gives what it says on standard output if it ends well, and on standard error if
 /// not.
 fn run(folder: &Path, example: &str, arguments: &[&str]) -> Result<String, String> {
     let test = std::env::current_exe().unwrap();

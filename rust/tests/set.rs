@@ -33,7 +33,16 @@ use straight_scan::{Answer, Bin, Call, Codes, Gesture, Sample};
 /// The numbers that the wrapper publishes are those of the tests.
 #[test]
 fn published_numbers() {
+    use hubeltxa::numbers as published;
+    assert_eq!((published::MOST_CODE, published::SCALE), (MOST_CODE, SCALE as f32));
+    assert_eq!((published::CHANNEL_LIMIT, published::RADIUS_LIMIT), (CHANNEL_LIMIT, RADIUS_LIMIT));
+    assert_eq!((published::MOST_RADIUS, published::MOST_BUCKET), (MOST_RADIUS, MOST_BUCKET));
+    assert_eq!((published::TITLE, published::COUNT_COLUMNS), (TITLE, COUNT_COLUMNS));
+    assert_eq!((published::TAG_COLUMNS, published::CODE_COLUMNS), (TAG_COLUMNS, CODE_COLUMNS));
+    assert_eq!((published::NAME_COLUMNS, published::NAME_START), (NAME_COLUMNS, NAME_START));
     assert_eq!((hubeltxa::HEADER_LENGTH, hubeltxa::LINE_LENGTH), (HEADER_LENGTH, LINE_LENGTH));
+    assert_eq!((published::SAMPLE_HEADER, published::SAMPLE_ROW), (SAMPLE_HEADER, SAMPLE_ROW));
+    assert_eq!((published::OCTANT_HEADER, published::OCTANT_ROW), (OCTANT_HEADER, OCTANT_ROW));
     assert_eq!((SampleSet::MOST_SAMPLES, SampleSet::OCTANTS_PER_SAMPLE), (MOST_SAMPLES, OCTANTS_A_SAMPLE));
     for rows in [0, 1, 2, 1_000, MOST_SAMPLES, MOST_OCTANTS] {
         assert_eq!(hubeltxa::lent::sample_words(rows), sample_words(rows));

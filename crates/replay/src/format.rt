@@ -1,6 +1,7 @@
-// The numbers of a script, each once. Words and floats that a call does not use may be any.
+// The numbers of a script, each once. Words and floats that a call does not use may be any. The kinds of calls stand in `script::call_in` alone, the words of an answer in
+// `replay::put_given`.
 
-// How many words and how many floats a step has: which call it is, up to eight arguments, and a length. A tag is an argument of two words.
+// How many words and how many floats a step has: which call it is, eight words of arguments, and a length. A tag has two words.
 pub const STEP: usize = 10;
 
 // How many words an answer has; the last two are spare, and 0.

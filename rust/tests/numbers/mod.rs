@@ -20,7 +20,7 @@ pub const CHANNEL_LIMIT: f32 = 1.0;
 pub const RADIUS_LIMIT: f32 = 2.0;
 
 /// The greatest radius as a code.
-pub const MOST_RADIUS: u32 = 2 * SCALE - 1;
+pub const MOST_RADIUS: u32 = (RADIUS_LIMIT * SCALE as f32) as u32 - 1;
 
 pub fn good_channel(v: f32) -> bool {
     (0.0..CHANNEL_LIMIT).contains(&v)
@@ -140,7 +140,7 @@ pub fn octant_count(octants: &[u32]) -> usize {
     octants[OCTANT_COUNT] as usize
 }
 
-/// The tag in a row; none where the table ends before it.
+/// The tag in a row; none if the table ends before it.
 pub fn tag_of(samples: &[u32], row: usize) -> Option<Tag> {
     samples.get(sample_words(row) + TAG).copied()
 }
