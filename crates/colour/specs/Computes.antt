@@ -5,7 +5,7 @@ use Rattle.colour.specs.Key.{base8, key, spreadNumber}
 use Rattle.colour.specs.Region.{closestCode, farthestCode, closest, farthest, holds, overlaps, inside}
 use Rattle.colour.specs.Mask.{bitIf, maskOf, overlapMask}
 use Rattle.colour.specs.Panel.{below, codeOf, channelGood, radiusGood, panelGood, codesOf, shown, shownColour, floatsToCodes, codesToFloats}
-use Rattle.colour.specs.Query.{ordered, queryGood, inCodes, askedOf}
+use Rattle.colour.specs.Query.{ordered, queryGood, queryQuestions, inCodes, askedOf}
 use Rattle.colour.specs.Question.{firstNo}
 
 unfoldable pub colourComputes : Unit {0}
@@ -13,5 +13,5 @@ unfolding codeIn colourBy each sumOf isCode isTag codesFit wrapped black apart d
     depths sideAt cubeHolds lastCode bitWeight bitAt childNumber children childLow base8 key spreadNumber
     closestCode farthestCode closest farthest holds overlaps inside bitIf maskOf overlapMask
     below codeOf channelGood radiusGood panelGood codesOf shown shownColour floatsToCodes codesToFloats
-    ordered queryGood inCodes askedOf firstNo
+    ordered queryGood queryQuestions inCodes askedOf firstNo
 colourComputes = tt

@@ -7,6 +7,7 @@ pub mod Region
 pub mod Mask
 pub mod Steps
 pub mod Nearby
-pub mod Query
 pub mod Question
+pub mod Refusal
+pub mod Query
 pub mod Computes

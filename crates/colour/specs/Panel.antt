@@ -1,6 +1,7 @@
 -- Panel floats to codes and back (document 01, "Gestures"). A float's value v is a whole number over a power of two, m * up e / down e.
 use Prim.Native.Nat.{ℕ, _*_, _/_}
 use mathlib.Core.Bool.{Bool, true, false, not, _&&_, _||_}
+use mathlib.Core.List.{[], _∷_}
 use mathlib.Core.Path.{_≡_}
 use lib.Dec.{ltb, eqb}
 use lib.Ieee.{Float, nan, inf, fin, up, down, round, binary32}
@@ -13,7 +14,10 @@ use Rattle.colour.specs.declared.panel.Codes.{Codes}
 use Rattle.colour.specs.declared.panel.Codes.the-variants as Cs
 use Rattle.colour.specs.declared.panel.Floats.{Floats}
 use Rattle.colour.specs.declared.panel.Floats.the-variants as Fs
+use Rattle.colour.specs.declared.refusal.Refusal.the-variants as R
 use Rattle.colour.specs.Colour.{codesFit, black}
+use Rattle.colour.specs.Question.{asks, firstNo}
+use Rattle.colour.specs.Refusal.{refusalNumber}
 
 -- 0 ≤ v < limit. Minus zero counts as zero; no other negative, infinity or NaN passes.
 unfoldable pub below : ℕ → Float → Bool
@@ -54,45 +58,49 @@ shownColour c = record { red = shown (c .red); green = shown (c .green); blue = 
 -- The code of a channel or of a radius, as an enum.
 unfoldable pub answerIf : Bool → Float → Code
 answerIf true v = C.Is (codeOf v)
-answerIf false v = C.Refused
+answerIf false v = C.OutOfRange
 
 -- The codes of a panel colour, as an enum.
 unfoldable pub codesIf : Bool → PanelColour → Codes
 codesIf true p = Cs.Are (codesOf p)
-codesIf false p = Cs.Refused
+codesIf false p = Cs.Refused R.OutOfRange
 
 -- A colour as floats, as an enum.
 unfoldable pub floatsIf : Bool → Colour → Floats
 floatsIf true c = Fs.Are (shownColour c)
-floatsIf false c = Fs.Refused
+floatsIf false c = Fs.Refused R.Code
 
--- Floats to codes: all that the call gives back. Question 9; where it says no, all else is 0.
+-- Floats to codes: all that the call gives back.
 pub record CodesAnswer : Type 0 where
   pub number : ℕ
   pub codes : Colour
 
--- Question 9: the channels as above? Then the codes.
+-- Question 9: the channels as above? Then the codes; on a refusal they are 0.
 unfoldable pub floatsToCodes : PanelColour → CodesAnswer
-floatsToCodes p = elim (panelGood p) [ true ↦ record { number = 0; codes = codesOf p } | false ↦ record { number = 9; codes = black } ]
+floatsToCodes p =
+    let n : ℕ = firstNo (asks 9 (panelGood p) ∷ []) in
+    record { number = n; codes = elim (eqb n 0) [ true ↦ codesOf p | false ↦ black ] }
 
 -- The paper's number and values for each case of the enum that answers it.
 unfoldable pub codesAnswer : Codes → CodesAnswer
 codesAnswer (Cs.Are c) = record { number = 0; codes = c }
-codesAnswer Cs.Refused = record { number = 9; codes = black }
+codesAnswer (Cs.Refused r) = record { number = refusalNumber r; codes = black }
 
--- Codes to floats: all that the call gives back. Question 4; where it says no, all else is 0.
+-- Codes to floats: all that the call gives back.
 pub record FloatsAnswer : Type 0 where
   pub number : ℕ
   pub floats : PanelColour
 
--- Question 4: codes up to 65,535? Then the floats.
+-- Question 4: codes up to 65,535? Then the floats; on a refusal they are 0.
 unfoldable pub codesToFloats : Colour → FloatsAnswer
-codesToFloats c = elim (codesFit c) [ true ↦ record { number = 0; floats = shownColour c } | false ↦ record { number = 4; floats = shownColour black } ]
+codesToFloats c =
+    let n : ℕ = firstNo (asks 4 (codesFit c) ∷ []) in
+    record { number = n; floats = elim (eqb n 0) [ true ↦ shownColour c | false ↦ shownColour black ] }
 
 -- The paper's number and values for each case of the enum that answers it.
 unfoldable pub floatsAnswer : Floats → FloatsAnswer
 floatsAnswer (Fs.Are p) = record { number = 0; floats = p }
-floatsAnswer Fs.Refused = record { number = 4; floats = shownColour black }
+floatsAnswer (Fs.Refused r) = record { number = refusalNumber r; floats = shownColour black }
 
 -- What is promised of a shown code r: it is that float, its value is exactly code / 65,536, and it reads as the same code.
 pub record Shown (code : ℕ) (r : Float) : Type 0 where

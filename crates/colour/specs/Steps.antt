@@ -23,11 +23,11 @@ unfoldable pub missed : ℕ → ℕ → ℕ → ℕ → ℕ
 missed a b s low = noes (leb a (lastCode s low) && leb low b)
 
 -- What the s codes from low of a channel add, for either region.
-unfoldable pub added : Region → Channel → ℕ → ℕ → ℕ
-added (Ball c r) h s low = closestSquare (codeIn h c) s low
-added (Box a b) h s low = missed (codeIn h a) (codeIn h b) s low
+unfoldable pub share : Region → Channel → ℕ → ℕ → ℕ
+share (Ball c r) h s low = closestSquare (codeIn h c) s low
+share (Box a b) h s low = missed (codeIn h a) (codeIn h b) s low
 
--- An octant overlaps where its channels add up to less than this (`overlaps-added` of proofs/Laws/Halves.antt).
+-- An octant overlaps where its channels add up to less than this (`overlaps-shares` of proofs/Laws/Halves.antt).
 unfoldable pub limitOf : Region → ℕ
 limitOf (Ball c r) = r * r
 limitOf (Box a b) = 1

@@ -7,6 +7,7 @@ pub mod nearby;
 pub mod octant;
 pub mod overlap;
 pub mod panel;
+pub mod refusal;
 
 ghost use mathlib.Core.Path.{_≡_};
 ghost use Rattle.colour.specs.Colour.{wrapped, InRange};
@@ -29,6 +30,11 @@ pub struct PanelColour {
 pub struct Sample {
     pub tag: u32,
     pub colour: Colour,
+}
+
+// What a clear sets (document 01, "The bin"): the bucket size b.
+pub struct Settings {
+    pub bucket: u32,
 }
 
 // A query (the paper's gesture), with its panel floats: a centre and a radius, or a low and a high colour.

@@ -3,45 +3,50 @@ use crate::Colour;
 use crate::PanelColour;
 use crate::Query;
 use crate::Region;
+use crate::refusal::Refusal;
 ghost use mathlib.Core.Bool.{_&&_};
-ghost use mathlib.Core.List.{[], _∷_};
 ghost use mathlib.Core.Path.{_≡_};
 ghost use Prim.Native.Nat.{_≤_, _<_, _^_};
 ghost use Rattle.colour.specs.Colour.{codesFit};
 ghost use Rattle.colour.specs.Panel.{below, answerIf, channelGood, radiusGood, panelGood};
 ghost use Rattle.colour.specs.Panel.{codesIf, codesAnswer, floatsToCodes, Shown, floatsIf, floatsAnswer, codesToFloats};
-ghost use Rattle.colour.specs.Query.{ordered, queryGood, sphereIf, askedOf, askedNumber};
-ghost use Rattle.colour.specs.Question.{asks, firstNo};
+ghost use Rattle.colour.specs.Query.{ordered, queryQuestions, sphereIf, askedOf, askedNumber};
+ghost use Rattle.colour.specs.Question.{firstNo};
 
 // A float's code, or that it is out of range.
 enum Code {
     Is(u32),
-    Refused,
+    OutOfRange,
 }
 
-// A panel colour's codes, or the refusal by number 9.
+// A panel colour's codes, or the refusal of question 9.
 pub enum Codes {
     Are(Colour),
-    Refused,
+    Refused(Refusal),
 }
 
-// A colour as panel floats, or the refusal by number 4.
+// A colour as panel floats, or the refusal of question 4.
 pub enum Floats {
     Are(PanelColour),
-    Refused,
+    Refused(Refusal),
 }
 
 // A centre and a radius in codes, or that one is out of range.
 enum Sphere {
     Is(Colour, u32),
-    Refused,
+    OutOfRange,
 }
 
-// What a query asks, in codes, or the refusal by number 9.
-pub enum Asked {
-    List(Region),
+// What a query wants, in codes: what lies in a region, or what is nearest to a centre within a radius.
+pub enum Wanted {
+    Listed(Region),
     Nearest(Colour, u32),
-    Refused,
+}
+
+// What a query asks for, or the refusal of question 9.
+pub enum Asked {
+    For(Wanted),
+    Refused(Refusal),
 }
 
 // The code of v, which has to be below 2 to the power twos, by sign, exponent and fraction out of its bits.
@@ -52,7 +57,7 @@ fn code_of(v: f32, twos: u32) -> Code
     ensures { λ r. ⌜ r ≡ answerIf (below (2 ^ twos) v) v ⌝ }
 {
     if v != v {
-        return Code::Refused;
+        return Code::OutOfRange;
     }
     let bits = f32::to_bits(v);
     if bits == 0x8000_0000 {
@@ -60,12 +65,12 @@ fn code_of(v: f32, twos: u32) -> Code
     }
     let sign = bits >> 31;
     if sign == 1 {
-        return Code::Refused;
+        return Code::OutOfRange;
     }
     let exponent = bits >> 23;
     let fraction = bits & 0x7f_ffff;
     if exponent >= 127 + twos {
-        return Code::Refused;
+        return Code::OutOfRange;
     }
     if exponent < 111 {
         return Code::Is(0);
@@ -92,13 +97,13 @@ pub fn codes_of(p: PanelColour) -> Codes
     ensures { λ r. ⌜ (codesAnswer r ≡ floatsToCodes p) × (r ≡ codesIf (panelGood p) p) ⌝ }
 {
     let Code::Is(red) = channel_code(p.red) else {
-        return Codes::Refused;
+        return Codes::Refused(Refusal::OutOfRange);
     };
     let Code::Is(green) = channel_code(p.green) else {
-        return Codes::Refused;
+        return Codes::Refused(Refusal::OutOfRange);
     };
     let Code::Is(blue) = channel_code(p.blue) else {
-        return Codes::Refused;
+        return Codes::Refused(Refusal::OutOfRange);
     };
     Codes::Are(Colour { red, green, blue })
 }
@@ -149,7 +154,7 @@ pub fn floats_of(c: Colour) -> Floats
             blue: show(c.blue),
         })
     } else {
-        Floats::Refused
+        Floats::Refused(Refusal::Code)
     }
 }
 
@@ -158,10 +163,10 @@ fn sphere_of(centre: PanelColour, radius: f32) -> Sphere
     ensures { λ r. ⌜ r ≡ sphereIf (panelGood centre && radiusGood radius) centre radius ⌝ }
 {
     let Codes::Are(c) = codes_of(centre) else {
-        return Sphere::Refused;
+        return Sphere::OutOfRange;
     };
     let Code::Is(r) = radius_code(radius) else {
-        return Sphere::Refused;
+        return Sphere::OutOfRange;
     };
     Sphere::Is(c, r)
 }
@@ -171,31 +176,31 @@ fn box_asked(low: PanelColour, high: PanelColour) -> Asked
     ensures { λ r. ⌜ r ≡ askedOf (Query.Box low high) ⌝ }
 {
     let Codes::Are(l) = codes_of(low) else {
-        return Asked::Refused;
+        return Asked::Refused(Refusal::OutOfRange);
     };
     let Codes::Are(h) = codes_of(high) else {
-        return Asked::Refused;
+        return Asked::Refused(Refusal::OutOfRange);
     };
     if at_most(l, h) {
-        Asked::List(Region::Box(l, h))
+        Asked::For(Wanted::Listed(Region::Box(l, h)))
     } else {
-        Asked::Refused
+        Asked::Refused(Refusal::OutOfRange)
     }
 }
 
 // A query taken apart: an exported call.
 pub fn asked_of(q: Query) -> Asked
-    ensures { λ r. ⌜ (askedNumber r ≡ firstNo (asks 9 (queryGood q) ∷ [])) × (r ≡ askedOf q) ⌝ }
+    ensures { λ r. ⌜ (askedNumber r ≡ firstNo (queryQuestions q)) × (r ≡ askedOf q) ⌝ }
 {
     match q {
         Query::Ball(centre, radius) => match sphere_of(centre, radius) {
-            Sphere::Is(c, r) => Asked::List(Region::Ball(c, r)),
-            Sphere::Refused => Asked::Refused,
+            Sphere::Is(c, r) => Asked::For(Wanted::Listed(Region::Ball(c, r))),
+            Sphere::OutOfRange => Asked::Refused(Refusal::OutOfRange),
         },
         Query::Box(low, high) => box_asked(low, high),
         Query::Nearest(centre, radius) => match sphere_of(centre, radius) {
-            Sphere::Is(c, r) => Asked::Nearest(c, r),
-            Sphere::Refused => Asked::Refused,
+            Sphere::Is(c, r) => Asked::For(Wanted::Nearest(c, r)),
+            Sphere::OutOfRange => Asked::Refused(Refusal::OutOfRange),
         },
     }
 }

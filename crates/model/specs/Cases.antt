@@ -15,7 +15,7 @@ use Rattle.sheet.specs.Sheet.{sameBytes as same}
 use Rattle.model.specs.SampleSet.{order, octants}
 use Rattle.model.specs.Layout.{current}
 use Rattle.model.specs.Queries.{tagOf}
-use Rattle.model.specs.Machine.{Machine, Call, Add, Remove, Ask, Answer, tablesOf, startOn, step}
+use Rattle.model.specs.Machine.{Machine, Call, Change, Add, Remove, Ask, Answer, tablesOf, startOn, step, nextState}
 use Rattle.model.specs.Walklist.{walklistPrints}
 use Rattle.model.specs.Computes.{computes}
 
@@ -41,16 +41,16 @@ fresh b words = startOn (record { bucket = b }) 82 words
 -- The machine after some calls.
 unfoldable pub after : Machine → List Call → Machine
 after m [] = m
-after m (c ∷ rest) = after (step m c .next) rest
+after m (c ∷ rest) = after (nextState m c) rest
 
 -- The numbers that calls give.
 unfoldable pub numbers : Machine → List Call → List ℕ
 numbers m [] = []
-numbers m (c ∷ rest) = step m c .answer .number ∷ numbers (step m c .next) rest
+numbers m (c ∷ rest) = step m c .answer .number ∷ numbers (nextState m c) rest
 
 -- Add 7 (0, 0, 0), 8 (65,535 in all), 9 (0, 0, 0).
 unfoldable pub adds : List Call
-adds = Add (grey 7 0) ∷ Add (grey 8 65535) ∷ Add (grey 9 0) ∷ []
+adds = Change (Add (grey 7 0)) ∷ Change (Add (grey 8 65535)) ∷ Change (Add (grey 9 0)) ∷ []
 
 -- b = 2, with the three samples.
 unfoldable pub three : Machine
@@ -66,14 +66,26 @@ nextWords m = let words : List ℕ = tablesOf current m .samples in getD words 6
 unfoldable pub octantWordsOf : Machine → List ℕ
 octantWordsOf m = tablesOf current m .octants
 
+-- 7 removed, and added anew.
+unfoldable pub again : List Call
+again = Change (Remove 7) ∷ Change (Add (grey 7 0)) ∷ []
+
 -- Alone in a set: (3, 4, 0).
 unfoldable pub alone : Machine
-alone = after (fresh 2 199) (Add (record { tag = 1; colour = record { red = 3; green = 4; blue = 0 } }) ∷ [])
+alone = after (fresh 2 199) (Change (Add (record { tag = 1; colour = record { red = 3; green = 4; blue = 0 } })) ∷ [])
 
--- A ball of r codes at centre 0 in all lists these tags into eight words of 1, with these counts.
-unfoldable pub ballGives : Machine → ℕ → List ℕ → ℕ → ℕ → Bool
-ballGives m r tags entered measured =
-    let a : Answer = step m (Ask (Ball (panelGrey (bits 0)) (shown r)) (replicate 8 1)) .answer in
+-- Two samples at the edge of a ball of 65,536 codes around 0 in all.
+unfoldable pub edge : Machine
+edge =
+    after (fresh 2 199)
+    (Change (Add (record { tag = 1; colour = record { red = 65535; green = 362; blue = 0 } }))
+    ∷ Change (Add (record { tag = 2; colour = record { red = 65535; green = 363; blue = 0 } }))
+    ∷ [])
+
+-- A ball at centre 0 in all, with a radius, lists these tags into eight words of 1, with these counts.
+unfoldable pub ballGives : Machine → Float → List ℕ → ℕ → ℕ → Bool
+ballGives m radius tags entered measured =
+    let a : Answer = step m (Ask (Ball (panelGrey (bits 0)) radius) (replicate 8 1)) .answer in
     eqb (a .number) 0
     && eqb (a .listed) (length tags)
     && same (a .listing) (tags ++ drop (length tags) (replicate 8 1))
@@ -125,31 +137,37 @@ cases =
     -- b. The root's row.
     ∷ same (take 11 (drop 1 (octantWordsOf three))) (0 ∷ 1 ∷ 3 ∷ 1 ∷ 0 ∷ 0 ∷ 0 ∷ 0 ∷ 0 ∷ 0 ∷ 2 ∷ [])
     -- c. d. e. f. Balls of 0, 1, 113,509 and 113,510 codes.
-    ∷ ballGives three 0 [] 0 0
-    ∷ ballGives three 1 (7 ∷ 9 ∷ []) 2 2
-    ∷ ballGives three 113509 (7 ∷ 9 ∷ []) 3 1
-    ∷ ballGives three 113510 (7 ∷ 9 ∷ 8 ∷ []) 1 0
-    -- g. Nearest: tag 7; 7 removed: tag 9; 7 added anew: still 9.
+    ∷ ballGives three (shown 0) [] 0 0
+    ∷ ballGives three (shown 1) (7 ∷ 9 ∷ []) 2 2
+    ∷ ballGives three (shown 113509) (7 ∷ 9 ∷ []) 3 1
+    ∷ ballGives three (shown 113510) (7 ∷ 9 ∷ 8 ∷ []) 1 0
+    -- g. Nearest: tag 7; 7 removed: tag 9; 7 added anew: still 9. Both calls are accepted, and the order is then 9, 7, 8.
     ∷ nearestGives three 7
-    ∷ nearestGives (after three (Remove 7 ∷ [])) 9
-    ∷ nearestGives (after three (Remove 7 ∷ Add (grey 7 0) ∷ [])) 9
+    ∷ nearestGives (after three (Change (Remove 7) ∷ [])) 9
+    ∷ nearestGives (after three again) 9
+    ∷ same (numbers three again) (0 ∷ 0 ∷ [])
+    ∷ same (orderTags (after three again)) (9 ∷ 7 ∷ 8 ∷ [])
     -- h. b = 1: 18 octants; 199 octant words suffice, with 198 the third add gives 7.
     ∷ eqb (octants (after (fresh 1 199) adds .set)) 18
     ∷ same (numbers (fresh 1 199) adds) (0 ∷ 0 ∷ 0 ∷ [])
     ∷ same (numbers (fresh 1 198) adds) (0 ∷ 0 ∷ 7 ∷ [])
     -- i. Alone in a set, (3, 4, 0): outside ball 5, inside ball 6.
-    ∷ ballGives alone 5 [] 1 1
-    ∷ ballGives alone 6 (1 ∷ []) 1 1
-    -- j. As a channel 0x3F7FFFFF is 65,535; 0x3F800000 gives 9, as a radius 65,536.
+    ∷ ballGives alone (shown 5) [] 1 1
+    ∷ ballGives alone (shown 6) (1 ∷ []) 1 1
+    -- j. As a channel 0x3F7FFFFF is 65,535; 0x3F800000 gives 9, as a radius 65,536: such a ball holds (65535, 362, 0) and not (65535, 363, 0).
     ∷ channelGives 0x3F7FFFFF 0 65535
     ∷ channelGives 0x3F800000 9 0
     ∷ eqb (queryNumber 0x3F800000 0) 9
     ∷ eqb (queryNumber 0 0x3F800000) 0
     ∷ eqb (codeOf (bits 0x3F800000)) 65536
-    -- k. 0x37800000 is 1, 0x377FFFFF is 0, 0x80000000 is 0.
+    ∷ ballGives edge (bits 0x3F800000) (1 ∷ []) 1 2
+    -- k. 0x37800000 is 1, 0x377FFFFF is 0, 0x80000000 is 0, as channels and as radii.
     ∷ channelGives 0x37800000 0 1
     ∷ channelGives 0x377FFFFF 0 0
     ∷ channelGives 0x80000000 0 0
+    ∷ ballGives three (bits 0x37800000) (7 ∷ 9 ∷ []) 2 2
+    ∷ ballGives three (bits 0x377FFFFF) [] 0 0
+    ∷ ballGives three (bits 0x80000000) [] 0 0
     -- l. 0xBF000000 and 0x7FC00000 give 9.
     ∷ channelGives 0xBF000000 9 0
     ∷ channelGives 0x7FC00000 9 0
@@ -164,6 +182,6 @@ cases =
 
 -- The theorem.
 pub cases-hold : all cases ≡ true
-unfolding computes cases all grey panelGrey bits fresh after numbers adds three orderTags nextWords octantWordsOf alone
+unfolding computes cases all grey panelGrey bits fresh after numbers adds three orderTags nextWords octantWordsOf again alone edge
     ballGives nearestGives channelGives queryNumber blanks reelEnd blackLine whiteLine example
 cases-hold = refl

@@ -3,6 +3,7 @@ pub mod Lists
 pub mod SampleSet
 pub mod Layout
 pub mod Tables
+pub mod Tree
 pub mod Queries
 pub mod Machine
 pub mod Sound

@@ -5,23 +5,16 @@ use mathlib.Core.List.{List, []}
 use mathlib.Core.Path.{_≡_}
 use lib.Dec.{eqb}
 use lib.ListN.{length, drop}
+use Rattle.colour.specs.declared.Settings.{Settings}
 use Rattle.colour.specs.declared.Query.{Query}
 use Rattle.colour.specs.declared.Query.the-variants as Q
 use Rattle.colour.specs.Question.{firstNo}
-use Rattle.colour.specs.Query.{queryGood}
-use Rattle.model.specs.SampleSet.{Settings}
+use Rattle.colour.specs.Query.{queryQuestions}
 use Rattle.model.specs.Layout.{current}
 use Rattle.model.specs.Tables.{Tables}
-use Rattle.model.specs.Machine.{Machine, Call, Clear, Load, Add, Remove, Ask, Answer, tablesOf, plain, listAnswer, nearestAnswer, step, start, clearQuestions}
+use Rattle.model.specs.Machine.{Machine, Call, Clear, Change, Ask, lent, Answer, tablesOf, plain, listAnswer, nearestAnswer}
+use Rattle.model.specs.Machine.{step, nextState, start, clearQuestions}
 use Rattle.model.specs.Sound.{Shows, Sound, longEnough}
-
--- The listing that a call was lent.
-unfoldable pub lent : Call → List ℕ
-lent (Clear b) = []
-lent (Load sheet) = []
-lent (Add s) = []
-lent (Remove t) = []
-lent (Ask q l) = l
 
 -- Call c on tables t gives the number n alone, and leaves the listing and the tables as they were.
 pub record Refused (n : ℕ) (c : Call) (t : Tables) (a : Answer) (t′ : Tables) : Type 0 where
@@ -31,7 +24,7 @@ pub record Refused (n : ℕ) (c : Call) (t : Tables) (a : Answer) (t′ : Tables
 -- The machine's answer and the machine's tables.
 pub record Follows (m : Machine) (c : Call) (a : Answer) (t′ : Tables) : Type 0 where
   pub answer : a ≡ step m c .answer
-  pub tables : t′ ≡ tablesOf current (step m c .next)
+  pub tables : t′ ≡ tablesOf current (nextState m c)
 
 -- Whether a query uses its listing.
 unfoldable pub lists : Query → Bool
@@ -39,9 +32,15 @@ lists (Q.Ball c r) = true
 lists (Q.Box lo hi) = true
 lists (Q.Nearest c r) = false
 
--- The numbers that a query on unsound tables may give: 2, those of later questions, and 0 where it finishes.
+-- The numbers that a query on unsound tables may give: 2; the first no of the questions that are put to the query itself; and, if these accept it,
+-- 0 if it finishes, or 13 if it uses a listing.
 unfoldable pub mayGive : Query → ℕ → Bool
-mayGive q n = eqb n 0 || eqb n 2 || eqb n 9 || (lists q && eqb n 13)
+mayGive q n =
+    eqb n 2
+    || elim (eqb (firstNo (queryQuestions q)) 0) [
+      | true ↦ eqb n 0 || (lists q && eqb n 13)
+      | false ↦ eqb n (firstNo (queryQuestions q))
+    ]
 
 -- It reports what its kind of query reports, and nothing else.
 unfoldable pub ownReports : Query → List ℕ → Answer → Answer
@@ -56,9 +55,6 @@ pub record Free (q : Query) (l : List ℕ) (t : Tables) (a : Answer) (t′ : Tab
   -- tables unchanged
   pub tables : t′ ≡ t
   pub number : mayGive q (a .number) ≡ true
-  -- 9 exactly for a query that is not as Gestures says, unless 2 is given
-  pub bad : queryGood q ≡ false → (a .number ≡ 2 → ⊥) → a .number ≡ 9
-  pub good : queryGood q ≡ true → a .number ≡ 9 → ⊥
   -- nothing past the listing's reported length written
   pub same-length : length (a .listing) ≡ length l
   pub room : a .listed ≤ length l
@@ -74,17 +70,15 @@ pub record TableMeets (unsoundly : Type 0) (c : Call) (t : Tables) (a : Answer) 
   pub sound : (m : Machine) → Shows current m t → Follows m c a t′
 
 -- Clear asks 1 and 3 alone, and starts a machine whatever words the tables held.
-pub record ClearMeets (b : Settings) (t : Tables) (a : Answer) (t′ : Tables) : Type 0 where
-  pub short : longEnough current t ≡ false → Refused 1 (Clear b) t a t′
-  pub refused : longEnough current t ≡ true → (firstNo (clearQuestions b) ≡ 0 → ⊥) → Refused (firstNo (clearQuestions b)) (Clear b) t a t′
-  pub accepted : longEnough current t ≡ true → firstNo (clearQuestions b) ≡ 0 → (a ≡ plain 0 []) × (t′ ≡ tablesOf current (start b t))
+pub record ClearMeets (s : Settings) (t : Tables) (a : Answer) (t′ : Tables) : Type 0 where
+  pub short : longEnough current t ≡ false → Refused 1 (Clear s) t a t′
+  pub refused : longEnough current t ≡ true → (firstNo (clearQuestions s) ≡ 0 → ⊥) → Refused (firstNo (clearQuestions s)) (Clear s) t a t′
+  pub accepted : longEnough current t ≡ true → firstNo (clearQuestions s) ≡ 0 → (a ≡ plain 0 []) × (t′ ≡ tablesOf current (start s t))
 
--- The contract of each table call.
+-- The contract of each table call, by its kind: 1 and 3; 1, 2 and its own questions; 1, the freedom of 2, and its own.
 unfoldable pub Meets : Call → Tables → Answer → Tables → Type 0
-Meets (Clear b) t a t′ = ClearMeets b t a t′
-Meets (Load sheet) t a t′ = TableMeets (Refused 2 (Load sheet) t a t′) (Load sheet) t a t′
-Meets (Add s) t a t′ = TableMeets (Refused 2 (Add s) t a t′) (Add s) t a t′
-Meets (Remove tag) t a t′ = TableMeets (Refused 2 (Remove tag) t a t′) (Remove tag) t a t′
+Meets (Clear s) t a t′ = ClearMeets s t a t′
+Meets (Change c) t a t′ = TableMeets (Refused 2 (Change c) t a t′) (Change c) t a t′
 Meets (Ask q l) t a t′ = TableMeets (Free q l t a t′) (Ask q l) t a t′
 
 -- The checking call says yes exactly where the tables are sound; so no where they are too short.

@@ -1,17 +1,18 @@
 -- The sample set, its tree and its order (document 01, "The bin": bin, octant, walk).
 -- An octant of side 2 ^ j is given by j, the depth left below it, and by the samples that it holds, by arrival.
 use Prim.Native.Nat.{ℕ, zero, suc, min}
-use mathlib.Core.Bool.{Bool, true, false}
+use mathlib.Core.Bool.{Bool, true, false, _&&_}
 use mathlib.Core.List.{List, [], _∷_}
-use lib.Dec.{ltb, eqb}
+use lib.Dec.{leb, ltb, eqb}
 use lib.ListN.{length}
 use Rattle.colour.specs.declared.Sample.{Sample}
+use Rattle.colour.specs.declared.Settings.{Settings}
 use Rattle.colour.specs.Octant.{depths, children, childNumber}
 use Rattle.model.specs.Lists.{keep, joined, total}
 
--- What a clear sets: the bucket size b.
-pub record Settings : Type 0 where
-  pub bucket : ℕ
+-- What a clear may set: a bucket size b in 1..256.
+unfoldable pub settingsGood : Settings → Bool
+settingsGood s = leb 1 (s .bucket) && leb (s .bucket) 256
 
 -- Bin: the samples by arrival, with what the last clear set.
 pub record SampleSet : Type 0 where

@@ -7,7 +7,7 @@ use lib.Dec.{leb}
 use lib.ListN.{length}
 use Rattle.colour.specs.declared.Sample.{Sample}
 use Rattle.colour.specs.Colour.{codesFit}
-use Rattle.model.specs.SampleSet.{octants}
+use Rattle.model.specs.SampleSet.{settingsGood, octants}
 use Rattle.model.specs.Layout.{Layout, sampleHeader, octantHeader, sampleRows, octantRows}
 use Rattle.model.specs.Tables.{Tables}
 use Rattle.model.specs.Machine.{Machine, tablesOf, hasTag}
@@ -22,12 +22,11 @@ unfoldable pub codesInRange : List Sample → Type 0
 codesInRange [] = Unit {0}
 codesInRange (s ∷ rest) = (codesFit (s .colour) ≡ true) × codesInRange rest
 
--- A machine within its tables: a set, a bucket size and two lengths that document 01 allows and that hold the set.
+-- A machine within its tables: a set, settings and two lengths that document 01 allows and that hold the set.
 pub record Valid (L : Layout) (m : Machine) : Type 0 where
   pub sample-words : sampleHeader L ≤ m .sampleLength
   pub octant-words : octantHeader L ≤ m .octantLength
-  pub bucket-low : 1 ≤ m .set .settings .bucket
-  pub bucket-high : m .set .settings .bucket ≤ 256
+  pub settings-good : settingsGood (m .set .settings) ≡ true
   pub tags-distinct : distinct (m .set .samples)
   pub in-range : codesInRange (m .set .samples)
   pub rows-fit : length (m .set .samples) ≤ sampleRows L (m .sampleLength)

@@ -4,10 +4,13 @@ use mathlib.Core.Bool.{true, false}
 use mathlib.Core.List.{List, [], _∷_, _++_, map}
 use lib.Dec.{eqb}
 use lib.ListN.{length}
+use denote.Triple.Both.{Both}
+use denote.Ref.{RefT, now}
+use Rattle.colour.specs.declared.Settings.{Settings}
 use Rattle.colour.specs.Colour.{codeIn}
 use Rattle.colour.specs.Octant.{depths, children}
 use Rattle.model.specs.Lists.{joined, total, padded}
-use Rattle.model.specs.SampleSet.{Settings, SampleSet, Placed, placed, part, splits, orderOf, octantsOf, order, octants}
+use Rattle.model.specs.SampleSet.{SampleSet, Placed, placed, part, splits, orderOf, octantsOf, order, octants}
 use Rattle.model.specs.Layout.{Setting, Bucket, SampleField, Tag, Code, Next, OctantField, First, Last, Count, Child, Layout}
 
 -- The row of the first; d where there is none.
@@ -95,6 +98,13 @@ pub record Tables : Type 0 where
 -- Two tables from their words.
 abbrev pub pair : List ℕ → List ℕ → Tables
 pair s o = record { samples = s; octants = o }
+
+-- Both tables of a call, by the slices that it is lent: as they are lent, and as it leaves them.
+abbrev pub tablesLent : {A B : Type 0} → Both (RefT (List ℕ)) A → Both (RefT (List ℕ)) B → Tables
+tablesLent samples octants = pair (now (samples .entry)) (now (octants .entry))
+
+abbrev pub tablesLeft : {A B : Type 0} → Both A (RefT (List ℕ)) → Both B (RefT (List ℕ)) → Tables
+tablesLeft samples octants = pair (now (samples .exit)) (now (octants .exit))
 
 -- The tables of a set, at the two lengths. Every word not named is 0.
 unfoldable pub tablesFor : Layout → SampleSet → ℕ → ℕ → Tables

@@ -9,7 +9,7 @@ use Rattle.sheet.specs.Line.{tagColumns}
 use Rattle.model.specs.SampleSet.{order}
 use Rattle.model.specs.Layout.{current, sampleHeader, sampleWidth, octantHeader, octantWidth}
 use Rattle.model.specs.Queries.{tagOf}
-use Rattle.model.specs.Machine.{Machine, Load, Outcome, startOn, step}
+use Rattle.model.specs.Machine.{Machine, Change, Load, Outcome, startOn, step}
 
 -- b = 2, 512 sample and 1,489 octant rows.
 unfoldable pub walklistStart : Machine
@@ -28,8 +28,8 @@ refusedLine n = 82 ∷ 69 ∷ 70 ∷ 85 ∷ 83 ∷ 69 ∷ 68 ∷ columnOf 3 n ++
 -- What a load came to, printed: each tag of the walk (the order), or on a refusal only that.
 unfoldable pub printedAfter : Outcome → List ℕ
 printedAfter o =
-    elim (eqb (o .answer .number) 0) [ true ↦ tagLines (map tagOf (order (o .next .set))) | false ↦ refusedLine (o .answer .number) ]
+    elim (eqb (o .answer .number) 0) [ true ↦ tagLines (map tagOf (order (o .set))) | false ↦ refusedLine (o .answer .number) ]
 
 -- 32,768 bytes at most; what follows is cut off.
 unfoldable pub walklistPrints : List ℕ → List ℕ
-walklistPrints input = printedAfter (step walklistStart (Load (take 32768 input)))
+walklistPrints input = printedAfter (step walklistStart (Change (Load (take 32768 input))))

@@ -2,6 +2,7 @@
 use Prim.Native.Nat.{ℕ}
 use mathlib.Core.List.{List}
 use mathlib.Core.Option.{none, some}
+use Rattle.colour.specs.Refusal.{refusalNumber}
 use Rattle.sheet.specs.declared.header.Header.{Header}
 use Rattle.sheet.specs.declared.header.Header.the-variants as H
 use Rattle.sheet.specs.declared.line.Reading.{Reading}
@@ -14,20 +15,18 @@ use Rattle.sheet.specs.Sheet.{HeaderAnswer}
 -- A header: question 11.
 unfoldable pub headerAnswer : Header → HeaderAnswer
 headerAnswer (H.Lines n) = record { number = 0; lines = some n }
-headerAnswer H.NotGood = record { number = 11; lines = none }
+headerAnswer (H.Refused r) = record { number = refusalNumber r; lines = none }
 
 -- A line: question 12.
 unfoldable pub lineAnswer : Reading → LineAnswer
 lineAnswer (R.Good l) = record { number = 0; line = some l }
-lineAnswer R.NotGood = record { number = 12; line = none }
+lineAnswer (R.Refused r) = record { number = refusalNumber r; line = none }
 
 -- A line to write: questions 4, 10, 13.
-unfoldable pub writtenNumber : Written → ℕ
+abbrev pub writtenNumber : Written → ℕ
 writtenNumber W.Line = 0
-writtenNumber W.NotCodes = 4
-writtenNumber W.NotName = 10
-writtenNumber W.TooShort = 13
+writtenNumber (W.Refused r) = refusalNumber r
 
--- With the bytes lent, as they are left.
-unfoldable pub written : Written → List ℕ → WriteAnswer
-written w lent = record { number = writtenNumber w; lent = lent }
+-- With the bytes as they are left.
+unfoldable pub writtenAnswer : Written → List ℕ → WriteAnswer
+writtenAnswer w left = record { number = writtenNumber w; left = left }

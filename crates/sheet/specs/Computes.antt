@@ -5,7 +5,7 @@ use Rattle.sheet.specs.Line.{tagColumns, codeColumns, nameColumns, redSt
 use Rattle.sheet.specs.Line.{nameByte, leading, nameGood, nameFieldGood, lineFrom, nameField, lineFormed, codeColumn, lineNumbers, lineOf, readLine}
 use Rattle.sheet.specs.Line.{numberColumns, lineBytes, writeNumber, writeLine}
 use Rattle.sheet.specs.Steps.{numberIs, within, putAt, nameLengthIn}
-use Rattle.sheet.specs.Answers.{headerAnswer, lineAnswer, writtenNumber, written}
+use Rattle.sheet.specs.Answers.{headerAnswer, lineAnswer, writtenAnswer}
 use Rattle.sheet.specs.Sheet.{title, sameBytes, countColumns, headerLength, lineStart, headerFormed, countIf, lineCount, readHeader, linePart, linesFrom, linesBy, linesOf}
 use Rattle.sheet.specs.Sheet.{emptyPart, bytesOf, allGood, namePartFrom, namePartOf, namePart}
 use Rattle.sheet.specs.Entries.{headerBytes, linesBytes, sheetBytes, entryGood, entriesGood, lineSaid, linesSaid, nameFor}
@@ -22,6 +22,6 @@ unfolding colourComputes sheetNumbers blank newline between digitByte trimmed di
     numberColumns lineBytes writeNumber writeLine
     sameBytes headerFormed countIf lineCount readHeader linePart linesFrom linesBy linesOf
     emptyPart bytesOf allGood namePartFrom namePartOf namePart
-    numberIs headerAnswer lineAnswer writtenNumber written
+    numberIs headerAnswer lineAnswer writtenAnswer
     headerBytes linesBytes sheetBytes entryGood entriesGood lineSaid linesSaid nameFor
 sheetComputes = tt

@@ -96,14 +96,18 @@ lineNumbers s n =
 unfoldable pub lineOf : List ℕ → Option Line
 lineOf s = elim (lineFormed s) [ true ↦ lineNumbers s (length (leading (nameField s))) | false ↦ none ]
 
--- What the reading of a line gives back: question 12, and what a good line says.
+-- What the reading of a line gives back: the number, and what a good line says.
 pub record LineAnswer : Type 0 where
   pub number : ℕ
   pub line : Option Line
 
+-- Question 12: line good?
+unfoldable pub lineAsked : Option Line → LineAnswer
+lineAsked l = record { number = firstNo (asks 12 (present l) ∷ []); line = l }
+
 -- A line read.
 unfoldable pub readLine : List ℕ → LineAnswer
-readLine s = record { number = firstNo (asks 12 (present (lineOf s)) ∷ []); line = lineOf s }
+readLine s = lineAsked (lineOf s)
 
 -- The numbers of a line, written from a sample.
 unfoldable pub numberColumns : Sample → List ℕ
@@ -124,7 +128,7 @@ lineBytes s name =
 -- What the writer gives back: the number, and the bytes lent as it leaves them.
 pub record WriteAnswer : Type 0 where
   pub number : ℕ
-  pub lent : List ℕ
+  pub left : List ℕ
 
 -- The writer's questions: 4, 10, 13.
 unfoldable pub writeNumber : Sample → List ℕ → List ℕ → ℕ
@@ -135,4 +139,4 @@ writeNumber s name lent =
 unfoldable pub writeLine : Sample → List ℕ → List ℕ → WriteAnswer
 writeLine s name lent =
     let n : ℕ = writeNumber s name lent in
-    record { number = n; lent = elim (eqb n 0) [ true ↦ lineBytes s name ++ drop lineLength lent | false ↦ lent ] }
+    record { number = n; left = elim (eqb n 0) [ true ↦ lineBytes s name ++ drop lineLength lent | false ↦ lent ] }

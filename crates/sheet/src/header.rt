@@ -5,6 +5,7 @@ use crate::line::LINE_LENGTH;
 use crate::line::Reading;
 use crate::line::read_line;
 use crate::text::same;
+use colour::refusal::Refusal;
 ghost use mathlib.Core.Path.{_≡_};
 ghost use Prim.Native.Nat.{suc, _≤_, _<_, _^_};
 ghost use lib.ListN.{length};
@@ -21,10 +22,10 @@ const COUNT_END: usize = TITLE_LENGTH + COUNT_COLUMNS;
 // Where line 0 starts.
 const HEADER_LENGTH: usize = COUNT_END + 1;
 
-// The number of lines that a good header says, or that it is not good: question 11.
+// The number of lines that a good header says, or the refusal of question 11.
 pub enum Header {
     Lines(usize),
-    NotGood,
+    Refused(Refusal),
 }
 
 // Reads a header. The sheet's length says how many lines there can be, and the count has to be that number: so no length is
@@ -33,23 +34,23 @@ pub fn read_header(sheet: &[u8]) -> Header
     ensures { λ r. ⌜ headerAnswer r ≡ readHeader (now (sheet .entry)) ⌝ }
 {
     if sheet.len() < HEADER_LENGTH {
-        return Header::NotGood;
+        return Header::Refused(Refusal::Header);
     }
     if !same(&sheet[..TITLE_LENGTH], b"SWATCHES") {
-        return Header::NotGood;
+        return Header::Refused(Refusal::Header);
     }
     if sheet[COUNT_END] != b'\n' {
-        return Header::NotGood;
+        return Header::Refused(Refusal::Header);
     }
     let lines = (sheet.len() - HEADER_LENGTH) / LINE_LENGTH;
     if HEADER_LENGTH + LINE_LENGTH * lines != sheet.len() {
-        return Header::NotGood;
+        return Header::Refused(Refusal::Header);
     }
     let Number::Is(count) = read_number(&sheet[TITLE_LENGTH..COUNT_END], lines as u64) else {
-        return Header::NotGood;
+        return Header::Refused(Refusal::Header);
     };
     if count != lines as u64 {
-        return Header::NotGood;
+        return Header::Refused(Refusal::Header);
     }
     Header::Lines(lines)
 }

@@ -5,11 +5,12 @@ use crate::text::blanks;
 use crate::text::name_bytes;
 use colour::Colour;
 use colour::Sample;
+use colour::refusal::Refusal;
 ghost use mathlib.Core.Path.{_≡_};
 ghost use Prim.Native.Nat.{_+_, _≤_};
 ghost use lib.ListN.{length};
 ghost use Rattle.sheet.specs.Answers.{lineAnswer};
-ghost use Rattle.sheet.specs.Line.{codeColumns, nameColumns, lineLength, codeColumn, lineNumbers, readLine};
+ghost use Rattle.sheet.specs.Line.{codeColumns, nameColumns, lineLength, codeColumn, lineNumbers, lineAsked, readLine};
 ghost use Rattle.sheet.specs.Steps.{numberIs, within, nameLengthIn, greatestCode};
 
 // The columns of a line, and where each starts.
@@ -44,10 +45,10 @@ pub struct Line {
     pub name_length: usize,
 }
 
-// What a line reads as, or that it is not good: question 12.
+// What a line reads as, or the refusal of question 12.
 pub enum Reading {
     Good(Line),
-    NotGood,
+    Refused(Refusal),
 }
 
 // The length of the name in its columns, 0 where they are not a name and blanks after: a good name has a byte.
@@ -74,19 +75,19 @@ fn code_at(line: &[u8], at: usize) -> Number
 // What a line's numbers say, beside a name of the length given.
 fn numbers(line: &[u8], name_length: usize) -> Reading
     requires { ⌜ length (now line) ≡ lineLength ⌝ }
-    ensures { λ r. ⌜ lineAnswer r .line ≡ lineNumbers (now (line .entry)) «name_length» ⌝ }
+    ensures { λ r. ⌜ lineAnswer r ≡ lineAsked (lineNumbers (now (line .entry)) «name_length») ⌝ }
 {
     let Number::Is(tag) = read_number(&line[..TAG_COLUMNS], GREATEST_TAG) else {
-        return Reading::NotGood;
+        return Reading::Refused(Refusal::Line);
     };
     let Number::Is(red) = code_at(line, RED_START) else {
-        return Reading::NotGood;
+        return Reading::Refused(Refusal::Line);
     };
     let Number::Is(green) = code_at(line, GREEN_START) else {
-        return Reading::NotGood;
+        return Reading::Refused(Refusal::Line);
     };
     let Number::Is(blue) = code_at(line, BLUE_START) else {
-        return Reading::NotGood;
+        return Reading::Refused(Refusal::Line);
     };
     Reading::Good(Line {
         sample: Sample {
@@ -106,17 +107,17 @@ pub fn read_line(line: &[u8]) -> Reading
     ensures { λ r. ⌜ lineAnswer r ≡ readLine (now (line .entry)) ⌝ }
 {
     if line.len() != LINE_LENGTH {
-        return Reading::NotGood;
+        return Reading::Refused(Refusal::Line);
     }
     if line[BLANK_AT] != b' ' {
-        return Reading::NotGood;
+        return Reading::Refused(Refusal::Line);
     }
     if line[NEWLINE_AT] != b'\n' {
-        return Reading::NotGood;
+        return Reading::Refused(Refusal::Line);
     }
     let n = name_length(&line[NAME_START..NEWLINE_AT]);
     if n == 0 {
-        return Reading::NotGood;
+        return Reading::Refused(Refusal::Line);
     }
     numbers(line, n)
 }

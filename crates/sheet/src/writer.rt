@@ -14,22 +14,21 @@ use crate::text::name_bytes;
 use crate::text::put_left;
 use colour::Sample;
 use colour::panel::codes_fit;
+use colour::refusal::Refusal;
 ghost use mathlib.Core.List.{[], _∷_, _++_};
 ghost use mathlib.Core.Path.{_≡_};
 ghost use Prim.Native.Nat.{_+_, _≤_};
 ghost use lib.ListN.{length, drop};
 ghost use Rattle.colour.specs.Question.{asks, firstNo};
-ghost use Rattle.sheet.specs.Answers.{written, writtenNumber};
+ghost use Rattle.sheet.specs.Answers.{writtenAnswer, writtenNumber};
 ghost use Rattle.sheet.specs.Column.{columnOf};
 ghost use Rattle.sheet.specs.Line.{nameColumns, blankAt, lineLength, nameGood, numberColumns, lineBytes, writeLine};
 ghost use Rattle.sheet.specs.Steps.{putAt};
 
-// What became of a line to write: it stands where it was to be, or a refusal, by 4, 10 or 13.
+// What became of a line to write: it stands where it was to be, or the refusal of question 4, 10 or 13.
 pub enum Written {
     Line,
-    NotCodes,
-    NotName,
-    TooShort,
+    Refused(Refusal),
 }
 
 // The number of an answer.
@@ -38,9 +37,7 @@ pub fn number_of(answer: Written) -> u32
 {
     match answer {
         Written::Line => 0,
-        Written::NotCodes => 4,
-        Written::NotName => 10,
-        Written::TooShort => 13,
+        Written::Refused(refusal) => colour::refusal::number_of(refusal),
     }
 }
 
@@ -92,20 +89,20 @@ fn first_no(codes: bool, name: bool, room: bool) -> Written
     ensures { λ r. ⌜ writtenNumber r ≡ firstNo (asks 4 codes ∷ asks 10 name ∷ asks 13 room ∷ []) ⌝ }
 {
     if !codes {
-        return Written::NotCodes;
+        return Written::Refused(Refusal::Code);
     }
     if !name {
-        return Written::NotName;
+        return Written::Refused(Refusal::Name);
     }
     if !room {
-        return Written::TooShort;
+        return Written::Refused(Refusal::NoRoom);
     }
     Written::Line
 }
 
 // Writes a line over the first 62 bytes lent, and leaves the rest; a refusal writes nothing: an exported call.
 pub fn write_line(sample: Sample, name: &[u8], line: &mut [u8]) -> Written
-    ensures { λ r. ⌜ written r (now (line .exit)) ≡ writeLine sample (now (name .entry)) (now (line .entry)) ⌝ }
+    ensures { λ r. ⌜ writtenAnswer r (now (line .exit)) ≡ writeLine sample (now (name .entry)) (now (line .entry)) ⌝ }
 {
     let answer = first_no(
         codes_fit(sample.colour),

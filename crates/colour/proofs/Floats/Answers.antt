@@ -11,8 +11,11 @@ use Rattle.colour.specs.declared.panel.Code.the-variants as C
 use Rattle.colour.specs.declared.panel.Codes.{Codes}
 use Rattle.colour.specs.declared.panel.Codes.the-variants as Cs
 use Rattle.colour.specs.declared.panel.Floats.{Floats}
+use Rattle.colour.specs.declared.refusal.Refusal.{Refusal}
+use Rattle.colour.specs.declared.refusal.Refusal.the-variants as R
 use Rattle.colour.specs.Colour.{Channel, Red, Green, Blue, each, codesFit}
 use Rattle.colour.specs.Panel.{codeOf, answerIf, channelGood, panelGood, codesOf, codesIf, codesAnswer, floatsToCodes, floatsIf, floatsAnswer, codesToFloats}
+use Rattle.colour.specs.Question.{firstNo}
 use Rattle.colour.proofs.Laws.Channels.{each-no}
 
 -- A float's code tells that the float is good, and a refusal that it is not.
@@ -21,7 +24,7 @@ unfolding answerIf
 code-told true v k e = (refl, cc)
 code-told false v k e = let z : _≡_ {A = ℕ} 0 1 = cc in absurd (omega arith)
 
-pub code-refused : (b : Bool) (v : Float) → answerIf b v ≡ C.Refused → b ≡ false
+pub code-refused : (b : Bool) (v : Float) → answerIf b v ≡ C.OutOfRange → b ≡ false
 unfolding answerIf
 code-refused true v e = let z : _≡_ {A = ℕ} 0 1 = cc in absurd (omega arith)
 code-refused false v e = refl
@@ -32,10 +35,10 @@ unfolding codesIf
 codes-told true p c e = (refl, cc)
 codes-told false p c e = let z : _≡_ {A = ℕ} 0 1 = cc in absurd (omega arith)
 
-pub codes-refused : (b : Bool) (p : PanelColour) → codesIf b p ≡ Cs.Refused → b ≡ false
+pub codes-refused : (b : Bool) (p : PanelColour) (r : Refusal) → codesIf b p ≡ Cs.Refused r → b ≡ false
 unfolding codesIf
-codes-refused true p e = let z : _≡_ {A = ℕ} 0 1 = cc in absurd (omega arith)
-codes-refused false p e = refl
+codes-refused true p r e = let z : _≡_ {A = ℕ} 0 1 = cc in absurd (omega arith)
+codes-refused false p r e = refl
 
 -- A panel colour by channel.
 abbrev pub floatIn : Channel → PanelColour → Float
@@ -48,7 +51,7 @@ channelAnswer h p = answerIf (channelGood (floatIn h p)) (floatIn h p)
 
 module _ (p : PanelColour) where
   -- One channel refused is the whole colour refused.
-  pub codes-no : (h : Channel) → channelAnswer h p ≡ C.Refused → Cs.Refused ≡ codesIf (panelGood p) p
+  pub codes-no : (h : Channel) → channelAnswer h p ≡ C.OutOfRange → Cs.Refused R.OutOfRange ≡ codesIf (panelGood p) p
   unfolding panelGood each codesIf
   codes-no h e =
       let bad : panelGood p ≡ false = each-no (λ h. channelGood (floatIn h p)) h (code-refused (channelGood (floatIn h p)) (floatIn h p) e) in
@@ -65,7 +68,7 @@ module _ (p : PanelColour) where
 
   -- The enum is the paper's answer.
   codes-answer : (b : Bool) → panelGood p ≡ b → codesAnswer (codesIf (panelGood p) p) ≡ floatsToCodes p
-  unfolding codesAnswer codesIf floatsToCodes
+  unfolding codesAnswer codesIf floatsToCodes firstNo
   codes-answer true e = rw (e, floatsToCodes)
   codes-answer false e = rw (e, floatsToCodes)
 
@@ -74,7 +77,7 @@ module _ (p : PanelColour) where
 
 module _ (c : Colour) where
   floats-answer : (b : Bool) → codesFit c ≡ b → floatsAnswer (floatsIf (codesFit c) c) ≡ codesToFloats c
-  unfolding floatsAnswer floatsIf codesToFloats
+  unfolding floatsAnswer floatsIf codesToFloats firstNo
   floats-answer true e = rw (e, codesToFloats)
   floats-answer false e = rw (e, codesToFloats)
 

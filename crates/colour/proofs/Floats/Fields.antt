@@ -13,7 +13,7 @@ use lib.Ieee.{Float, nan, inf, fin, binary32, odd, fits, ofFields, ofBits, toBit
 use lib.Ieee.Bits.{cond-no, is-true, is-false, ofBits-toBits, toBits-lt}
 use lib.Ieee.Exact.{odd-sign}
 use Rattle.colour.specs.Panel.{below, codeOf, answerIf}
-use Rattle.colour.specs.declared.panel.Code.the-variants.{Is, Refused}
+use Rattle.colour.specs.declared.panel.Code.the-variants.{Is, OutOfRange}
 use Rattle.colour.proofs.Floats.Value.{coded, code-yes, code-no, code-minus}
 
 -- The float of significand q and sign s that is q * 2 ^ x / 2 ^ 149, and its code.
@@ -21,24 +21,24 @@ abbrev scaled : Bool → ℕ → ℕ → Float
 scaled s q x = odd 24 s q x 149
 
 module _ (l q x : ℕ) where
-  scaled-minus : 0 < q * 2 ^ x → coded l (scaled true q x) ≡ Refused
+  scaled-minus : 0 < q * 2 ^ x → coded l (scaled true q x) ≡ OutOfRange
   scaled-minus h = code-minus l (scaled true q x) (q * 2 ^ x) (2 ^ 149) (odd-sign 24 true q x 149) h
 
-  scaled-no : l * 2 ^ 149 ≤ q * 2 ^ x → coded l (scaled false q x) ≡ Refused
+  scaled-no : l * 2 ^ 149 ≤ q * 2 ^ x → coded l (scaled false q x) ≡ OutOfRange
   scaled-no h = code-no l (scaled false q x) (q * 2 ^ x) (2 ^ 149) (pow-pos 149) (odd-sign 24 false q x 149) h
 
   scaled-yes : q * 2 ^ x < l * 2 ^ 149 → coded l (scaled false q x) ≡ Is (65536 * (q * 2 ^ x) / 2 ^ 149)
   scaled-yes h = code-yes l (scaled false q x) (q * 2 ^ x) (2 ^ 149) (pow-pos 149) (odd-sign 24 false q x 149) h
 
 -- An exponent field of all ones is refused, so a refusal of the number that the fields would stand for is a refusal of all.
-special : (l : ℕ) (s : Bool) (b d : Bool) (y : Float) → coded l y ≡ Refused → coded l (cond b (cond d (inf s) nan) y) ≡ Refused
+special : (l : ℕ) (s : Bool) (b d : Bool) (y : Float) → coded l y ≡ OutOfRange → coded l (cond b (cond d (inf s) nan) y) ≡ OutOfRange
 unfolding answerIf below
 special l s true true y e = refl
 special l s true false y e = refl
 special l s false d y e = e
 
 -- Below zero.
-minus-refused : (l x t : ℕ) → 0 < x + t → coded l (ofFields binary32 true x t) ≡ Refused
+minus-refused : (l x t : ℕ) → 0 < x + t → coded l (ofFields binary32 true x t) ≡ OutOfRange
 unfolding ofFields
 minus-refused l zero t h = scaled-minus l t 0 (omega arith)
 minus-refused l (suc x) t h =
@@ -46,7 +46,7 @@ minus-refused l (suc x) t h =
     (scaled-minus l (8388608 + t) x (mul-pos (omega arith) (pow-pos x)))
 
 -- At the limit or above.
-high-refused : (j x t : ℕ) → 127 + j ≤ x → coded (2 ^ j) (ofFields binary32 false x t) ≡ Refused
+high-refused : (j x t : ℕ) → 127 + j ≤ x → coded (2 ^ j) (ofFields binary32 false x t) ≡ OutOfRange
 unfolding ofFields
 high-refused j zero t h = absurd (omega arith)
 high-refused j (suc x) t h =
@@ -129,11 +129,11 @@ module _ (x : Float) (F : T (fits binary32 x)) where
   unfolding ofBits
   minus-zero h j = ap (coded (2 ^ j)) (sym (ofBits-toBits binary32 x F) ∙ ap (ofBits binary32) h) ∙ zero-code j
 
-  pub negative : (l : ℕ) → 2147483648 < toBits binary32 x → coded l x ≡ Refused
+  pub negative : (l : ℕ) → 2147483648 < toBits binary32 x → coded l x ≡ OutOfRange
   negative l h =
       ap (coded l) (minus (omega arith)) ∙ minus-refused l (bits % 2147483648 / 8388608) (bits % 8388608) (omega (arith, bits-lt))
 
-  pub too-high : (j : ℕ) → toBits binary32 x < 2147483648 → 127 + j ≤ toBits binary32 x / 8388608 → coded (2 ^ j) x ≡ Refused
+  pub too-high : (j : ℕ) → toBits binary32 x < 2147483648 → 127 + j ≤ toBits binary32 x / 8388608 → coded (2 ^ j) x ≡ OutOfRange
   too-high j h k = ap (coded (2 ^ j)) (plus h) ∙ high-refused j (bits / 8388608) (bits % 8388608) k
 
   pub too-low : (j : ℕ) → j ≤ 1 → toBits binary32 x / 8388608 < 111 → coded (2 ^ j) x ≡ Is 0

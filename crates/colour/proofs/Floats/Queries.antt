@@ -1,5 +1,4 @@
 -- A query taken apart: from what its floats' answers tell to what it asks.
-use mathlib.Core.List.{[], _∷_}
 use mathlib.Core.Path.{_≡_, refl, ap, _∙_}
 use mathlib.Core.Bool.{Bool, true, false, _&&_, and-false, and-eq-true-iff}
 use Prim.Native.Nat.{ℕ, _<_}
@@ -14,42 +13,40 @@ use Rattle.colour.specs.declared.Region.the-variants as R
 use Rattle.colour.specs.declared.panel.Code.the-variants as C
 use Rattle.colour.specs.declared.panel.Codes.the-variants as Cs
 use Rattle.colour.specs.declared.panel.Sphere.the-variants as S
+use Rattle.colour.specs.declared.panel.Wanted.{Wanted}
+use Rattle.colour.specs.declared.panel.Wanted.the-variants as W
 use Rattle.colour.specs.declared.panel.Asked.{Asked}
 use Rattle.colour.specs.declared.panel.Asked.the-variants as A
+use Rattle.colour.specs.declared.refusal.Refusal.{Refusal}
+use Rattle.colour.specs.declared.refusal.Refusal.the-variants.{OutOfRange}
 use Rattle.colour.specs.Colour.{codesFit}
 use Rattle.colour.specs.Panel.{panelGood, radiusGood, codesOf, codeOf, answerIf, codesIf}
-use Rattle.colour.specs.Question.{asks, firstNo}
-use Rattle.colour.specs.Query.{ordered, queryGood, inCodes, askedOf, askedNumber, sphereIf}
+use Rattle.colour.specs.Question.{firstNo}
+use Rattle.colour.specs.Query.{ordered, queryGood, queryQuestions, inCodes, askedOf, askedNumber, sphereIf}
 use Rattle.colour.proofs.Floats.Answers.{code-told, code-refused, codes-told, codes-refused}
 use Rattle.colour.proofs.Floats.Codes.{code-below, good-fit}
 
 -- A good query is answered in its codes, any other is refused.
 module _ (q : Query) where
-  pub asked-yes : queryGood q ≡ true → askedOf q ≡ inCodes q
+  pub asked-yes : queryGood q ≡ true → askedOf q ≡ A.For (inCodes q)
   unfolding askedOf
   asked-yes e = rw (askedOf, e)
 
-  pub asked-no : queryGood q ≡ false → askedOf q ≡ A.Refused
+  pub asked-no : queryGood q ≡ false → askedOf q ≡ A.Refused OutOfRange
   unfolding askedOf
   asked-no e = rw (askedOf, e)
 
-in-codes-number : (q : Query) → askedNumber (inCodes q) ≡ 0
-unfolding inCodes askedNumber
-in-codes-number (Q.Ball c r) = refl
-in-codes-number (Q.Box l h) = refl
-in-codes-number (Q.Nearest c r) = refl
-
 -- Its number is question 9's: 0 exactly for a good query, else 9.
-pub asked-number : (q : Query) → askedNumber (askedOf q) ≡ firstNo (asks 9 (queryGood q) ∷ [])
-unfolding askedNumber firstNo
+pub asked-number : (q : Query) → askedNumber (askedOf q) ≡ firstNo (queryQuestions q)
+unfolding askedNumber queryQuestions firstNo
 asked-number q = at (queryGood q) refl
   where
-    at : (b : Bool) → queryGood q ≡ b → askedNumber (askedOf q) ≡ firstNo (asks 9 (queryGood q) ∷ [])
-    at true e = rw (e, asked-yes q e, in-codes-number q)
+    at : (b : Bool) → queryGood q ≡ b → askedNumber (askedOf q) ≡ firstNo (queryQuestions q)
+    at true e = rw (e, asked-yes q e)
     at false e = rw (e, asked-no q e)
 
 -- So an answer that is the definition's has the paper's number.
-pub asked-meets : (q : Query) (r : Asked) → r ≡ askedOf q → (askedNumber r ≡ firstNo (asks 9 (queryGood q) ∷ [])) × (r ≡ askedOf q)
+pub asked-meets : (q : Query) (r : Asked) → r ≡ askedOf q → (askedNumber r ≡ firstNo (queryQuestions q)) × (r ≡ askedOf q)
 asked-meets q r e = (ap askedNumber e ∙ asked-number q, e)
 
 -- A centre and a radius.
@@ -57,11 +54,11 @@ module _ (p : PanelColour) (v : Float) where
   abbrev good : Bool
   good = panelGood p && radiusGood v
 
-  pub no-centre : codesIf (panelGood p) p ≡ Cs.Refused → S.Refused ≡ sphereIf good p v
+  pub no-centre : (r : Refusal) → codesIf (panelGood p) p ≡ Cs.Refused r → S.OutOfRange ≡ sphereIf good p v
   unfolding sphereIf
-  no-centre e = rw (codes-refused (panelGood p) p e)
+  no-centre r e = rw (codes-refused (panelGood p) p r e)
 
-  pub no-radius : answerIf (radiusGood v) v ≡ C.Refused → S.Refused ≡ sphereIf good p v
+  pub no-radius : answerIf (radiusGood v) v ≡ C.OutOfRange → S.OutOfRange ≡ sphereIf good p v
   unfolding sphereIf
   no-radius e = rw (code-refused (radiusGood v) v e, and-false (panelGood p))
 
@@ -78,31 +75,31 @@ unfolding sphereIf
 sphere-told true p v k n e = (refl, cc, cc)
 sphere-told false p v k n e = let z : _≡_ {A = ℕ} 0 1 = cc in absurd (omega arith)
 
-sphere-refused : (b : Bool) (p : PanelColour) (v : Float) → sphereIf b p v ≡ S.Refused → b ≡ false
+sphere-refused : (b : Bool) (p : PanelColour) (v : Float) → sphereIf b p v ≡ S.OutOfRange → b ≡ false
 unfolding sphereIf
 sphere-refused true p v e = let z : _≡_ {A = ℕ} 0 1 = cc in absurd (omega arith)
 sphere-refused false p v e = refl
 
 -- A query that asks by a centre and a radius: a ball or a nearest query.
 module _ (q : Query) (p : PanelColour) (v : Float) (by : queryGood q ≡ (panelGood p && radiusGood v)) where
-  pub sphere-asked : (ask : Colour → ℕ → Asked) → inCodes q ≡ ask (codesOf p) (codeOf v)
-      → (k : Colour) (n : ℕ) → sphereIf (panelGood p && radiusGood v) p v ≡ S.Is k n → askedOf q ≡ ask k n
-  sphere-asked ask asks k n e =
+  pub sphere-asked : (want : Colour → ℕ → Wanted) → inCodes q ≡ want (codesOf p) (codeOf v)
+      → (k : Colour) (n : ℕ) → sphereIf (panelGood p && radiusGood v) p v ≡ S.Is k n → askedOf q ≡ A.For (want k n)
+  sphere-asked want wants k n e =
       let t = sphere-told (panelGood p && radiusGood v) p v k n e in
-      asked-yes q (by ∙ t .0) ∙ asks ∙ rw (t .1, t .2)
+      asked-yes q (by ∙ t .0) ∙ ap A.For wants ∙ rw (t .1, t .2)
 
-  pub sphere-not-asked : sphereIf (panelGood p && radiusGood v) p v ≡ S.Refused → askedOf q ≡ A.Refused
+  pub sphere-not-asked : sphereIf (panelGood p && radiusGood v) p v ≡ S.OutOfRange → askedOf q ≡ A.Refused OutOfRange
   sphere-not-asked e = asked-no q (by ∙ sphere-refused (panelGood p && radiusGood v) p v e)
 
 -- A box.
 module _ (low high : PanelColour) where
-  pub no-low : codesIf (panelGood low) low ≡ Cs.Refused → askedOf (Q.Box low high) ≡ A.Refused
+  pub no-low : (r : Refusal) → codesIf (panelGood low) low ≡ Cs.Refused r → askedOf (Q.Box low high) ≡ A.Refused OutOfRange
   unfolding queryGood
-  no-low e = asked-no (Q.Box low high) (rw (codes-refused (panelGood low) low e))
+  no-low r e = asked-no (Q.Box low high) (rw (codes-refused (panelGood low) low r e))
 
-  pub no-high : codesIf (panelGood high) high ≡ Cs.Refused → askedOf (Q.Box low high) ≡ A.Refused
+  pub no-high : (r : Refusal) → codesIf (panelGood high) high ≡ Cs.Refused r → askedOf (Q.Box low high) ≡ A.Refused OutOfRange
   unfolding queryGood
-  no-high e = asked-no (Q.Box low high) (rw (codes-refused (panelGood high) high e, and-false (panelGood low)))
+  no-high r e = asked-no (Q.Box low high) (rw (codes-refused (panelGood high) high r e, and-false (panelGood low)))
 
   module _ (l h : Colour) (el : codesIf (panelGood low) low ≡ Cs.Are l) (eh : codesIf (panelGood high) high ≡ Cs.Are h) where
     box-good : queryGood (Q.Box low high) ≡ ordered l h
@@ -112,12 +109,12 @@ module _ (low high : PanelColour) where
         let y = codes-told (panelGood high) high h eh in
         rw (x .0, y .0, x .1, y .1)
 
-    pub box-yes : ordered l h ≡ true → askedOf (Q.Box low high) ≡ A.List (R.Box l h)
+    pub box-yes : ordered l h ≡ true → askedOf (Q.Box low high) ≡ A.For (W.Listed (R.Box l h))
     unfolding inCodes
     box-yes e =
         asked-yes (Q.Box low high) (box-good ∙ e) ∙ rw (codes-told (panelGood low) low l el .1, codes-told (panelGood high) high h eh .1)
 
-    pub box-no : ordered l h ≡ false → askedOf (Q.Box low high) ≡ A.Refused
+    pub box-no : ordered l h ≡ false → askedOf (Q.Box low high) ≡ A.Refused OutOfRange
     box-no e = asked-no (Q.Box low high) (box-good ∙ e)
 
 -- What a query asks lies in range: codes up to 65,535, a radius below 131,072, a box in order.
@@ -128,20 +125,19 @@ abbrev pub RegionFits : Region → Type 0
 RegionFits (R.Ball k n) = SphereFits k n
 RegionFits (R.Box l h) = (codesFit l ≡ true) × (codesFit h ≡ true) × (ordered l h ≡ true)
 
-abbrev pub AskedFits : Asked → Type 0
-AskedFits (A.List r) = RegionFits r
-AskedFits (A.Nearest k n) = SphereFits k n
-AskedFits A.Refused = Unit
+abbrev pub WantedFits : Wanted → Type 0
+WantedFits (W.Listed r) = RegionFits r
+WantedFits (W.Nearest k n) = SphereFits k n
 
 sphere-fits : (p : PanelColour) (v : Float) → (panelGood p && radiusGood v) ≡ true → SphereFits (codesOf p) (codeOf v)
 unfolding radiusGood
 sphere-fits p v e = (good-fit p (and-eq-true-iff (panelGood p) (radiusGood v) .0 e .0), code-below 2 v (and-eq-true-iff (panelGood p) (radiusGood v) .0 e .1))
 
-in-codes-fits : (q : Query) → queryGood q ≡ true → AskedFits (inCodes q)
+pub wanted-fits : (q : Query) → queryGood q ≡ true → WantedFits (inCodes q)
 unfolding queryGood inCodes
-in-codes-fits (Q.Ball p v) e = sphere-fits p v e
-in-codes-fits (Q.Nearest p v) e = sphere-fits p v e
-in-codes-fits (Q.Box low high) e =
+wanted-fits (Q.Ball p v) e = sphere-fits p v e
+wanted-fits (Q.Nearest p v) e = sphere-fits p v e
+wanted-fits (Q.Box low high) e =
     let o = ordered (codesOf low) (codesOf high) in
     let both = and-eq-true-iff (panelGood low && panelGood high) o .0 e .0 in (
       good-fit low (and-eq-true-iff (panelGood low) (panelGood high) .0 both .0),
@@ -149,8 +145,17 @@ in-codes-fits (Q.Box low high) e =
       and-eq-true-iff (panelGood low && panelGood high) o .0 e .1,
     )
 
-pub asked-fits : (q : Query) → AskedFits (askedOf q)
-asked-fits q = at (queryGood q) refl where
-  at : (b : Bool) → queryGood q ≡ b → AskedFits (askedOf q)
-  at true e = rw (asked-yes q e) (in-codes-fits q e)
-  at false e = rw (asked-no q e) tt
+-- What a query asks for tells that it is good, and in what codes; a refusal tells that it is not.
+pub asked-told : (q : Query) (w : Wanted) → askedOf q ≡ A.For w → (queryGood q ≡ true) × (inCodes q ≡ w)
+asked-told q w e = at (queryGood q) refl
+  where
+    at : (b : Bool) → queryGood q ≡ b → (b ≡ true) × (inCodes q ≡ w)
+    at true g = (refl, let h : A.For (inCodes q) ≡ A.For w = rw (asked-yes q g) at e in cc)
+    at false g = let z : _≡_ {A = ℕ} 0 1 = cc (asked-no q g) in absurd (omega arith)
+
+pub asked-refused : (q : Query) (r : Refusal) → askedOf q ≡ A.Refused r → (queryGood q ≡ false) × (r ≡ OutOfRange)
+asked-refused q r e = at (queryGood q) refl
+  where
+    at : (b : Bool) → queryGood q ≡ b → (b ≡ false) × (r ≡ OutOfRange)
+    at true g = let z : _≡_ {A = ℕ} 0 1 = cc (asked-yes q g) in absurd (omega arith)
+    at false g = (refl, cc (asked-no q g))

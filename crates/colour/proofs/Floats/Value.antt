@@ -13,7 +13,7 @@ use lib.Ieee.Fits.{down-pos}
 use lib.Ieee.Nearest.{div-same}
 use Rattle.colour.specs.Panel.{below, codeOf, answerIf}
 use Rattle.colour.specs.declared.panel.Code.{Code}
-use Rattle.colour.specs.declared.panel.Code.the-variants.{Is, Refused}
+use Rattle.colour.specs.declared.panel.Code.the-variants.{Is, OutOfRange}
 
 -- A float's code under a limit.
 abbrev pub coded : ℕ → Float → Code
@@ -68,10 +68,10 @@ pub code-yes : (l : ℕ) (x : Float) (a c : ℕ) → 0 < c → HasValue x false 
 unfolding answerIf
 code-yes l x a c C v h = rw (below-yes l x a c v h, codeOf-at x false a c C v)
 
-pub code-no : (l : ℕ) (x : Float) (a c : ℕ) → 0 < c → HasValue x false a c → l * c ≤ a → coded l x ≡ Refused
+pub code-no : (l : ℕ) (x : Float) (a c : ℕ) → 0 < c → HasValue x false a c → l * c ≤ a → coded l x ≡ OutOfRange
 unfolding answerIf
 code-no l x a c C v h = rw (below-no l x a c C v h)
 
-pub code-minus : (l : ℕ) (x : Float) (a c : ℕ) → HasValue x true a c → 0 < a → coded l x ≡ Refused
+pub code-minus : (l : ℕ) (x : Float) (a c : ℕ) → HasValue x true a c → 0 < a → coded l x ≡ OutOfRange
 unfolding answerIf
 code-minus l x a c v h = rw (below-minus l x a c v h)

@@ -13,7 +13,7 @@ use Rattle.colour.specs.Colour.{Channel, Red, Green, Blue, codeIn, each,
 use Rattle.colour.specs.Octant.{bitWeight, children, childLow}
 use Rattle.colour.specs.Region.{closest, overlaps}
 use Rattle.colour.specs.Mask.{bitIf, maskOf, overlapMask}
-use Rattle.colour.specs.Steps.{closestSquare, noes, missed, added, limitOf, halvesOf, halfAt, ofChannel, childSum, childBelow}
+use Rattle.colour.specs.Steps.{closestSquare, noes, missed, share, limitOf, halvesOf, halfAt, ofChannel, childSum, childBelow}
 use Rattle.colour.proofs.Laws.Channels.{sum-same, code-by}
 use Rattle.colour.proofs.Laws.Octants.{child-code}
 use Rattle.colour.proofs.Laws.Mask.{mask-same}
@@ -34,15 +34,15 @@ each-noes f = go (f Red) (f Green) (f Blue)
     go false false false = refl
 
 -- d² to an octant's closest colour is what its channels add up to.
-pub closest-added : (c : Colour) (s : ℕ) (low : Colour) → distance c (closest c s low) ≡ sumOf (λ h. closestSquare (codeIn h c) s (codeIn h low))
+pub closest-shares : (c : Colour) (s : ℕ) (low : Colour) → distance c (closest c s low) ≡ sumOf (λ h. closestSquare (codeIn h c) s (codeIn h low))
 unfolding closestSquare distance closest
-closest-added c s low = sum-same _ _ (λ h. ap (λ (n : ℕ). apart (codeIn h c) n * apart (codeIn h c) n) (code-by _ h))
+closest-shares c s low = sum-same _ _ (λ h. ap (λ (n : ℕ). apart (codeIn h c) n * apart (codeIn h c) n) (code-by _ h))
 
 -- An octant overlaps a region exactly where its channels add up to less than the region's limit.
-pub overlaps-added : (R : Region) (s : ℕ) (low : Colour) → overlaps R s low ≡ ltb (sumOf (λ h. added R h s (codeIn h low))) (limitOf R)
-unfolding overlaps added limitOf missed
-overlaps-added (Ball c r) s low = ap (λ (n : ℕ). ltb n (r * r)) (closest-added c s low)
-overlaps-added (Box a b) s low = each-noes _
+pub overlaps-shares : (R : Region) (s : ℕ) (low : Colour) → overlaps R s low ≡ ltb (sumOf (λ h. share R h s (codeIn h low))) (limitOf R)
+unfolding overlaps share limitOf missed
+overlaps-shares (Ball c r) s low = ap (λ (n : ℕ). ltb n (r * r)) (closest-shares c s low)
+overlaps-shares (Box a b) s low = each-noes _
 
 -- The half of a bit starts at low, or s above it.
 half-at : (f : ℕ → ℕ → ℕ) (s low n : ℕ) → halfAt (halvesOf f s low) (n % 2) ≡ f s (low + n % 2 * s)
@@ -65,16 +65,16 @@ child-sum f s low halves e k =
 
 -- The children whose halves add up to less than the limit are those that overlap.
 module _ (R : Region) (s : ℕ) (low : Colour) where
-  child-below : (halves : Channel → Halves) → ((h : Channel) → halves h ≡ halvesOf (added R h) s (codeIn h low))
+  child-below : (halves : Channel → Halves) → ((h : Channel) → halves h ≡ halvesOf (share R h) s (codeIn h low))
       → (k : ℕ) → childBelow halves (limitOf R) k ≡ overlaps R s (childLow s k low)
   unfolding childBelow
-  child-below halves e k = ap (λ (n : ℕ). ltb n (limitOf R)) (child-sum (added R) s low halves e k) ∙ sym (overlaps-added R s (childLow s k low))
+  child-below halves e k = ap (λ (n : ℕ). ltb n (limitOf R)) (child-sum (share R) s low halves e k) ∙ sym (overlaps-shares R s (childLow s k low))
 
   -- A mask by halves that are known to be the region's, and by its limit.
   pub mask-overlaps : {red green blue : Halves} {limit m : ℕ}
-      → red ≡ halvesOf (added R Red) s (codeIn Red low)
-      → green ≡ halvesOf (added R Green) s (codeIn Green low)
-      → blue ≡ halvesOf (added R Blue) s (codeIn Blue low)
+      → red ≡ halvesOf (share R Red) s (codeIn Red low)
+      → green ≡ halvesOf (share R Green) s (codeIn Green low)
+      → blue ≡ halvesOf (share R Blue) s (codeIn Blue low)
       → limit ≡ limitOf R
       → m ≡ maskOf (childBelow (ofChannel red green blue) limit) children
       → m ≡ overlapMask R s low

@@ -9,11 +9,11 @@ use Rattle.colour.specs.Octant.{childLow}
 use Rattle.colour.specs.Region.{closest}
 use Rattle.colour.specs.Steps.{closestSquare, halvesOf, ofChannel}
 use Rattle.colour.specs.Nearby.{gapsOf, closestBy}
-use Rattle.colour.proofs.Laws.Halves.{closest-added, child-sum}
+use Rattle.colour.proofs.Laws.Halves.{closest-shares, child-sum}
 
 -- d² to the closest colour of child k.
 pub closest-by : (c : Colour) (s : ℕ) (low : Colour) (k : ℕ) → closestBy (gapsOf c s low) k ≡ distance c (closest c s (childLow s k low))
 unfolding closestBy gapsOf ofChannel codeIn
 closest-by c s low k =
     child-sum (λ h. closestSquare (codeIn h c)) s low _ (elim [ Red ↦ refl | Green ↦ refl | Blue ↦ refl ]) k
-    ∙ sym (closest-added c s (childLow s k low))
+    ∙ sym (closest-shares c s (childLow s k low))

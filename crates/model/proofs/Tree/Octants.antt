@@ -8,10 +8,11 @@ use lib.ListN.{length}
 use native.Mathlib.Omega.{arith}
 use native.Mathlib.Nat.{suc-mul}
 use borrow.Author.Tests.{ltb-true, ltb-false}
+use Rattle.colour.specs.declared.Settings.{Settings}
 use Rattle.colour.specs.declared.Sample.{Sample}
 use Rattle.colour.specs.Octant.{depths, children, childNumber}
 use Rattle.model.specs.Lists.{keep, total}
-use Rattle.model.specs.SampleSet.{Settings, SampleSet, Placed, placedFrom, placed, part, splits, octantsOf, octants}
+use Rattle.model.specs.SampleSet.{SampleSet, Placed, placedFrom, placed, part, splits, octantsOf, octants}
 use Rattle.model.proofs.Lists.{total-le, total-times}
 use Rattle.model.proofs.Tree.Order.{parts-length, placed-length}
 

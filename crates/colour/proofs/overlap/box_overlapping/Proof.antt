@@ -3,7 +3,7 @@ use borrow.Author.Needs.{needs}
 use mathlib.Core.Path.{refl}
 use Rattle.colour.specs.declared.Region.the-variants.{Box}
 use Rattle.colour.specs.Colour.{Channel, codeIn}
-use Rattle.colour.specs.Steps.{added, limitOf, halvesOf}
+use Rattle.colour.specs.Steps.{share, limitOf, halvesOf}
 use Rattle.colour.proofs.Laws.Cubes.{child-room}
 use Rattle.colour.proofs.Laws.Halves.{mask-overlaps}
 use Rattle.colour.proofs.overlap.box_overlapping.Statement.{statement}
@@ -25,7 +25,7 @@ mask-requires : tie.Need-mask-requires
 mask-requires c κs = search needs
 
 returns : tie.Need-returns
-unfolding codeIn added limitOf halvesOf
+unfolding codeIn share limitOf halvesOf
 returns c = (
   mask-overlaps (Box _ _) _ _
       (c .before .before .before .misses .ensures .0)

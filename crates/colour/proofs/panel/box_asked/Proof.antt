@@ -15,7 +15,7 @@ enum-told : tie.Need-enum-told
 enum-told c = search needs
 
 returns : tie.Need-returns
-returns c = sym (no-low _ _ (sym (c .before .before .codes-of .ensures .1) ∙ c .enum-told .given .1))
+returns c = sym (no-low _ _ _ (sym (c .before .before .codes-of .ensures .1) ∙ c .enum-told .given .1))
 
 codes-of-requires-2 : tie.Need-codes-of-requires-2
 codes-of-requires-2 c κs = search needs
@@ -27,7 +27,7 @@ enum-told-2 : tie.Need-enum-told-2
 enum-told-2 c = search needs
 
 returns-2 : tie.Need-returns-2
-returns-2 c = sym (no-high _ _ (sym (c .before .before .codes-of2 .ensures .1) ∙ c .enum-told2 .given .1))
+returns-2 c = sym (no-high _ _ _ (sym (c .before .before .codes-of2 .ensures .1) ∙ c .enum-told2 .given .1))
 
 at-most-requires : tie.Need-at-most-requires
 at-most-requires c κs = search needs

@@ -9,7 +9,7 @@ use lib.Dec.{T}
 use lib.Ieee.{Float, nan, inf, fin, binary32, fits, isNan, ne, toBits}
 use lib.Ieee.Compare.{differs-from-itself, nan-differs}
 use Rattle.colour.specs.Panel.{below, answerIf}
-use Rattle.colour.specs.declared.panel.Code.the-variants.{Is, Refused}
+use Rattle.colour.specs.declared.panel.Code.the-variants.{Is, OutOfRange}
 use Rattle.colour.proofs.Floats.Value.{coded}
 use Rattle.colour.proofs.Floats.Fields.{bits-lt, minus-zero, negative, too-high, too-low, between}
 use Rattle.colour.proofs.panel.code_of.Statement.{statement}
@@ -18,7 +18,7 @@ use Rattle.colour.proofs.panel.code_of.Tie as tie
 held : (c : tie.Start) → T (fits binary32 (c .args .v))
 held c = subst T (sym (c .good .0 .1)) tt
 
-nan-refused : (l : ℕ) (x : Float) → x ≡ nan → Refused ≡ coded l x
+nan-refused : (l : ℕ) (x : Float) → x ≡ nan → OutOfRange ≡ coded l x
 unfolding answerIf below
 nan-refused l x e = sym (ap (coded l) e)
 

@@ -15,7 +15,7 @@ enum-told : tie.Need-enum-told
 enum-told c = search needs
 
 returns : tie.Need-returns
-returns c = no-centre _ _ (sym (c .before .before .codes-of .ensures .1) ∙ c .enum-told .given .1)
+returns c = no-centre _ _ _ (sym (c .before .before .codes-of .ensures .1) ∙ c .enum-told .given .1)
 
 radius-code-requires : tie.Need-radius-code-requires
 radius-code-requires c κs = search needs

@@ -8,6 +8,7 @@ use native.Mathlib.Omega.{arith}
 use borrow.Author.Tests.{eqb-true, eq-eqb}
 use lib.Dec.{eqb}
 use lib.ListN.{length, take, drop, getD}
+use Rattle.colour.specs.declared.refusal.Refusal.the-variants as Q
 use Rattle.colour.specs.Question.{firstNo}
 use Rattle.sheet.specs.declared.header.Header.the-variants as H
 use Rattle.sheet.specs.Answers.{headerAnswer}
@@ -60,11 +61,11 @@ pub good : (s : List ℕ) (n : ℕ) → Formed s n → headerAnswer (H.Lines n) 
 unfolding headerAnswer readHeader present firstNo
 good s n f = rw (counted s n f)
 
-pub not-good : (s : List ℕ) → ((n : ℕ) → Formed s n → ⊥) → headerAnswer H.NotGood ≡ readHeader s
+pub not-good : (s : List ℕ) → ((n : ℕ) → Formed s n → ⊥) → headerAnswer (H.Refused Q.Header) ≡ readHeader s
 unfolding headerAnswer readHeader present firstNo
 not-good s h = go (lineCount s) refl
   where
-    go : (o : Option ℕ) → lineCount s ≡ o → headerAnswer H.NotGood ≡ readHeader s
+    go : (o : Option ℕ) → lineCount s ≡ o → headerAnswer (H.Refused Q.Header) ≡ readHeader s
     go none e = rw e
     go (some n) e = absurd (h n (formed s n e))
 

@@ -9,27 +9,30 @@ use borrow.Author.Tests.{le-leb, eq-eqb, ne-eqb, leb-false, ltb-true, lt-ltb, eq
 use lib.Dec.{leb, eqb}
 use lib.ListN.{length, drop, getD}
 use Rattle.colour.specs.declared.Sample.{Sample}
+use Rattle.colour.specs.declared.refusal.Refusal.the-variants as Q
 use Rattle.colour.specs.Question.{firstNo}
 use Rattle.colour.specs.Colour.{Channel, Red, Green, Blue, codeIn, isTag, codesFit}
 use Rattle.colour.proofs.Laws.Channels.{fit-codes}
 use Rattle.sheet.specs.declared.line.Line.{Line}
-use Rattle.sheet.specs.declared.line.Reading.{Reading}
 use Rattle.sheet.specs.declared.line.Reading.the-variants as R
 use Rattle.sheet.specs.Answers.{lineAnswer}
 use Rattle.sheet.specs.Column.{blank, newline, trimmed, present}
 use Rattle.sheet.specs.Line.{blankAt, newlineAt, lineLength}
-use Rattle.sheet.specs.Line.{leading, nameGood, nameFieldGood, lineFrom, nameColumns, nameField, lineFormed, lineNumbers, lineOf, readLine}
+use Rattle.sheet.specs.Line.{leading, nameGood, nameFieldGood, lineFrom, nameColumns, nameField, lineFormed, lineNumbers, lineOf, lineAsked}
 use Rattle.sheet.specs.Steps.{within, nameLengthIn, greatestTag, greatestCode}
 use Rattle.sheet.proofs.Laws.Reading.Digits.{within-yes, within-some}
 use Rattle.sheet.proofs.Laws.Text.{leading-twice, leading-most, trimmed-most}
 use Rattle.sheet.proofs.Laws.Names.{name-good}
 use Rattle.sheet.proofs.Laws.Ranges.{GoodRange, Ranged, from-holds}
 
--- A reading that says what a line says is the line's answer, with its number.
-pub answer-is : (r : Reading) (s : List ℕ) → lineAnswer r .line ≡ lineOf s → lineAnswer r ≡ readLine s
-unfolding lineAnswer readLine present firstNo
-answer-is (R.Good l) s e = rw (sym e)
-answer-is R.NotGood s e = rw (sym e)
+-- The answer of a line that is not good, and of a good one.
+pub line-refused : (l : Option Line) → none ≡ l → lineAnswer (R.Refused Q.Line) ≡ lineAsked l
+unfolding lineAnswer lineAsked present firstNo
+line-refused l e = rw (sym e)
+
+pub line-good : (k : Line) (l : Option Line) → some k ≡ l → lineAnswer (R.Good k) ≡ lineAsked l
+unfolding lineAnswer lineAsked present firstNo
+line-good k l e = rw (sym e)
 
 -- A line that says something has all its numbers: the tag, a code in each channel, and the name's length.
 pub record Numbers (t : Option ℕ) (f : Channel → Option ℕ) (n : ℕ) (l : Line) : Type 0 where

@@ -17,7 +17,7 @@ use Rattle.sheet.specs.declared.line.Line.{Line}
 use Rattle.sheet.specs.declared.line.Reading.{Reading}
 use Rattle.sheet.specs.declared.lookup.Part.{Part}
 use Rattle.sheet.specs.Answers.{headerAnswer, lineAnswer}
-use Rattle.sheet.specs.Line.{nameColumns, nameStart, newlineAt, lineLength, lineOf, LineAnswer, readLine}
+use Rattle.sheet.specs.Line.{nameColumns, nameStart, newlineAt, lineLength, lineOf, LineAnswer, lineAsked, readLine}
 use Rattle.sheet.specs.Sheet.{lineStart, lineCount, HeaderAnswer, readHeader, linePart, linesFrom, linesBy, linesOf, emptyPart, bytesOf, allGood, namePartFrom, namePartOf, namePart, NameIn}
 use Rattle.sheet.proofs.Laws.Exact.Lines.{line-name-good, line-name-size}
 use Rattle.sheet.proofs.Laws.Reading.Header.{line-ends, line-fits}
@@ -29,7 +29,7 @@ unfolding readHeader
 header-says r x s same e = ap (λ (a : HeaderAnswer). a .lines) (ap headerAnswer (sym same) ∙ e)
 
 pub line-says : (r x : Reading) (s : List ℕ) → r ≡ x → lineAnswer r ≡ readLine s → lineAnswer x .line ≡ lineOf s
-unfolding readLine
+unfolding readLine lineAsked
 line-says r x s same e = ap (λ (a : LineAnswer). a .line) (ap lineAnswer (sym same) ∙ e)
 
 -- The name of a good line has 1 to 32 bytes.

@@ -121,13 +121,13 @@ module _ (s : Sample) (name : List ℕ) where
 -- Written over the bytes lent.
 module _ (s : Sample) (name lent : List ℕ) where
   -- The line stands first in the bytes lent.
-  written-is : writeLine s name lent .number ≡ 0 → writeLine s name lent .lent ≡ lineBytes s name ++ drop lineLength lent
+  written-is : writeLine s name lent .number ≡ 0 → writeLine s name lent .left ≡ lineBytes s name ++ drop lineLength lent
   unfolding writeLine
   written-is z = rw (eq-eqb _ 0 z, writeLine)
 
   -- The first 62 of the bytes lent say the sample and the name's length.
   pub written-reads : isTag (s .tag) ≡ true → writeLine s name lent .number ≡ 0
-      → lineOf (take lineLength (writeLine s name lent .lent)) ≡ some (record { sample = s; «name_length» = length name })
+      → lineOf (take lineLength (writeLine s name lent .left)) ≡ some (record { sample = s; «name_length» = length name })
   unfolding writeLine
   written-reads t z =
       let a = accepted s name lent z in
@@ -135,5 +135,5 @@ module _ (s : Sample) (name lent : List ℕ) where
       (line-reads s name t (a .codes) (a .named))
 
   -- They hold the name's bytes.
-  pub written-name : writeLine s name lent .number ≡ 0 → take (length name) (drop nameStart (writeLine s name lent .lent)) ≡ name
+  pub written-name : writeLine s name lent .number ≡ 0 → take (length name) (drop nameStart (writeLine s name lent .left)) ≡ name
   written-name z = rw (written-is z) (name-stands s name _)

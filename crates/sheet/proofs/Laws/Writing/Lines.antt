@@ -3,27 +3,24 @@ use Prim.Native.Nat.{ℕ, _+_, _-_, _≤_}
 use mathlib.Core.Bool.{Bool, true, false}
 use mathlib.Core.List.{List, [], _∷_, _++_, append-assoc}
 use mathlib.Core.Path.{_≡_, refl, sym, ap, _∙_}
-use mathlib.Core.Logic.{⊎-elim}
 use native.Mathlib.Omega.{arith}
 use borrow.Author.Tests.{eq-eqb, ne-eqb, leb-true}
-use types.Run.{OneOf}
-use denote.Enum.Declared.{tagOf}
 use lib.Dec.{leb}
 use borrow.Rule.Slice.PartMut.{putMid}
 use lib.ListN.{length, take, drop, set, replicate, length-append}
 use lib.Seq.{drop-at}
 use Rattle.colour.specs.declared.Sample.{Sample}
+use Rattle.colour.specs.declared.refusal.Refusal.{Refusal}
 use Rattle.colour.specs.Colour.{codesFit}
 use Rattle.colour.specs.Question.{asks, firstNo}
-use Rattle.colour.proofs.Laws.Questions.{asked}
+use Rattle.colour.proofs.Laws.Questions.{asked, refusal-numbered}
 use Rattle.sheet.specs.declared.writer.Written.{Written}
 use Rattle.sheet.specs.declared.writer.Written.the-variants as W
-use Rattle.sheet.specs.Answers.{written, writtenNumber}
+use Rattle.sheet.specs.Answers.{writtenAnswer, writtenNumber}
 use Rattle.sheet.specs.Computes.{sheetNumbers}
 use Rattle.sheet.specs.Column.{blank, newline, columnOf}
 use Rattle.sheet.specs.Line.{tagColumns, codeColumns, nameColumns, redStart, greenStart, blueStart, blankAt, nameStart, newlineAt, lineLength, nameGood, numberColumns, lineBytes, writeNumber, writeLine}
 use Rattle.sheet.specs.Steps.{putAt}
-use Rattle.sheet.proofs.writer.Written.{the-type}
 use Rattle.sheet.proofs.Laws.Parts.{part-length, put-next, set-next, part-put}
 use Rattle.sheet.proofs.Laws.Names.{filled, filled-length}
 use Rattle.sheet.proofs.Laws.Writing.Lengths.{column-length, numbers-length, start-length}
@@ -122,13 +119,9 @@ module _ (codes name room : Bool) where
   unfolding firstNo
   no-no c n r = rw (c, n, r)
 
--- An answer that is not the line's is a refusal.
-pub refused : (w : Written) → OneOf (1 ∷ 2 ∷ 3 ∷ []) (tagOf the-type w) → writtenNumber w ≡ 0 → ⊥
-unfolding writtenNumber
-refused W.Line t e = ⊎-elim (λ z. omega arith) (⊎-elim (λ z. omega arith) (λ z. omega arith)) t
-refused W.NotCodes t e = omega arith
-refused W.NotName t e = omega arith
-refused W.TooShort t e = omega arith
+-- A refusal has a number.
+pub refused : (w : Written) (r : Refusal) → w ≡ W.Refused r → writtenNumber w ≡ 0 → ⊥
+refused w r e z = refusal-numbered r (sym (ap writtenNumber e) ∙ z)
 
 -- What is accepted: each question was answered with yes.
 pub record Accepted (s : Sample) (name lent : List ℕ) : Type 0 where
@@ -153,14 +146,14 @@ module _ (s : Sample) (name lent : List ℕ) (codes good room : Bool) (w : Writt
   number-is = said ∙ rw (c, n, r)
 
   -- A refusal leaves the bytes lent.
-  pub left-alone : (writtenNumber w ≡ 0 → ⊥) → written w lent ≡ writeLine s name lent
-  unfolding written writeLine
+  pub left-alone : (writtenNumber w ≡ 0 → ⊥) → writtenAnswer w lent ≡ writeLine s name lent
+  unfolding writtenAnswer writeLine
   left-alone z = rw (number-is, ne-eqb (writeNumber s name lent) 0 (λ e. z (number-is ∙ e)))
 
   pub all-yes : writtenNumber w ≡ 0 → Accepted s name lent
   all-yes z = accepted s name lent (sym number-is ∙ z)
 
   -- The line stands over the bytes lent.
-  pub line-stands : writtenNumber w ≡ 0 → (left : List ℕ) → left ≡ lineBytes s name ++ drop lineLength lent → written w left ≡ writeLine s name lent
-  unfolding written writeLine
+  pub line-stands : writtenNumber w ≡ 0 → (left : List ℕ) → left ≡ lineBytes s name ++ drop lineLength lent → writtenAnswer w left ≡ writeLine s name lent
+  unfolding writtenAnswer writeLine
   line-stands z left e = rw (number-is, eq-eqb (writeNumber s name lent) 0 (sym number-is ∙ z), e)

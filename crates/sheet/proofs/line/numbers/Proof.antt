@@ -4,13 +4,12 @@ use mathlib.Core.Path.{sym, ap, _∙_}
 use native.Mathlib.Omega.{arith}
 use lib.Seq.{length-take-le}
 use Rattle.colour.specs.Colour.{Red, Green, Blue, codeIn}
-use Rattle.sheet.specs.Answers.{lineAnswer}
 use Rattle.sheet.specs.Computes.{sheetNumbers}
 use Rattle.sheet.specs.Line.{lineNumbers}
 use Rattle.sheet.specs.Steps.{numberIs, greatestTag, greatestCode}
 use Rattle.sheet.proofs.Laws.Reading.Digits.{within-some}
 use Rattle.sheet.proofs.Laws.Numbers.{line-length-is}
-use Rattle.sheet.proofs.Laws.Reading.Lines.{no-tag, no-code, all-numbers}
+use Rattle.sheet.proofs.Laws.Reading.Lines.{line-refused, line-good, no-tag, no-code, all-numbers}
 use Rattle.sheet.proofs.line.numbers.Statement.{statement}
 use Rattle.sheet.proofs.line.numbers.Tie as tie
 
@@ -29,10 +28,10 @@ enum-told : tie.Need-enum-told
 enum-told c = search needs
 
 returns : tie.Need-returns
-unfolding numberIs lineAnswer lineNumbers sheetNumbers
+unfolding numberIs lineNumbers sheetNumbers
 returns c =
     let d = c .before .before in
-    no-tag _ _ _ _ _ (ap numberIs (sym (c .enum-told .given .1)) ∙ d .read-number .ensures)
+    line-refused _ (no-tag _ _ _ _ _ (ap numberIs (sym (c .enum-told .given .1)) ∙ d .read-number .ensures))
 
 code-at-requires : tie.Need-code-at-requires
 unfolding sheetNumbers
@@ -45,10 +44,10 @@ enum-told-2 : tie.Need-enum-told-2
 enum-told-2 c = search needs
 
 returns-2 : tie.Need-returns-2
-unfolding numberIs lineAnswer lineNumbers sheetNumbers
+unfolding numberIs lineNumbers sheetNumbers
 returns-2 c =
     let d = c .before .before in
-    no-code _ _ _ _ _ Red (ap numberIs (sym (c .enum-told2 .given .1)) ∙ d .code-at .ensures)
+    line-refused _ (no-code _ _ _ _ _ Red (ap numberIs (sym (c .enum-told2 .given .1)) ∙ d .code-at .ensures))
 
 code-at-requires-2 : tie.Need-code-at-requires-2
 unfolding sheetNumbers
@@ -61,10 +60,10 @@ enum-told-3 : tie.Need-enum-told-3
 enum-told-3 c = search needs
 
 returns-3 : tie.Need-returns-3
-unfolding numberIs lineAnswer lineNumbers sheetNumbers
+unfolding numberIs lineNumbers sheetNumbers
 returns-3 c =
     let d = c .before .before in
-    no-code _ _ _ _ _ Green (ap numberIs (sym (c .enum-told3 .given .1)) ∙ d .code-at2 .ensures)
+    line-refused _ (no-code _ _ _ _ _ Green (ap numberIs (sym (c .enum-told3 .given .1)) ∙ d .code-at2 .ensures))
 
 code-at-requires-3 : tie.Need-code-at-requires-3
 unfolding sheetNumbers
@@ -77,55 +76,56 @@ enum-told-4 : tie.Need-enum-told-4
 enum-told-4 c = search needs
 
 returns-4 : tie.Need-returns-4
-unfolding numberIs lineAnswer lineNumbers sheetNumbers
+unfolding numberIs lineNumbers sheetNumbers
 returns-4 c =
     let d = c .before .before in
-    no-code _ _ _ _ _ Blue (ap numberIs (sym (c .enum-told4 .given .1)) ∙ d .code-at3 .ensures)
+    line-refused _ (no-code _ _ _ _ _ Blue (ap numberIs (sym (c .enum-told4 .given .1)) ∙ d .code-at3 .ensures))
 
-cast-t13 : tie.Need-cast-t13
+cast-t17 : tie.Need-cast-t17
 unfolding numberIs
-cast-t13 c =
+cast-t17 c =
     let e₃ = c .before .before .before in
     let e₂ = e₃ .before .before .before .before in
     let e₁ = e₂ .before .before .before .before in
     let e = e₁ .before .before .before .before in
     omega (arith, within-some greatestTag _ _ (ap numberIs (sym (e₁ .before .before .tag .given .1)) ∙ e .read-number .ensures) .1)
 
-cast-t14 : tie.Need-cast-t14
+cast-t18 : tie.Need-cast-t18
 unfolding numberIs
-cast-t14 c =
+cast-t18 c =
     let e₃ = c .before .before .before in
     let e₂ = e₃ .before .before .before .before in
     let e₁ = e₂ .before .before .before .before in
     omega (arith, within-some greatestCode _ _ (ap numberIs (sym (e₂ .before .before .red .given .1)) ∙ e₁ .code-at .ensures) .1)
 
-cast-t15 : tie.Need-cast-t15
+cast-t19 : tie.Need-cast-t19
 unfolding numberIs
-cast-t15 c =
+cast-t19 c =
     let e₃ = c .before .before .before in
     let e₂ = e₃ .before .before .before .before in
     omega (arith, within-some greatestCode _ _ (ap numberIs (sym (e₃ .before .before .green .given .1)) ∙ e₂ .code-at2 .ensures) .1)
 
-cast-t16 : tie.Need-cast-t16
+cast-t20 : tie.Need-cast-t20
 unfolding numberIs
-cast-t16 c =
+cast-t20 c =
     let e₃ = c .before .before .before in
     omega (arith, within-some greatestCode _ _ (ap numberIs (sym (c .before .blue .given .1)) ∙ e₃ .code-at3 .ensures) .1)
 
 returns-5 : tie.Need-returns-5
-unfolding numberIs lineAnswer lineNumbers sheetNumbers codeIn
+unfolding numberIs lineNumbers sheetNumbers codeIn
 returns-5 c =
     let e₃ = c .before .before .before in
     let e₂ = e₃ .before .before .before .before in
     let e₁ = e₂ .before .before .before .before in
     let e = e₁ .before .before .before .before in
-    all-numbers _ _ _ _ _ _
+    line-good _ _
+    (all-numbers _ _ _ _ _ _
     (ap numberIs (sym (e₁ .before .before .tag .given .1)) ∙ e .read-number .ensures)
     (elim [
       | Red ↦ ap numberIs (sym (e₂ .before .before .red .given .1)) ∙ e₁ .code-at .ensures
       | Green ↦ ap numberIs (sym (e₃ .before .before .green .given .1)) ∙ e₂ .code-at2 .ensures
       | Blue ↦ ap numberIs (sym (c .before .blue .given .1)) ∙ e₃ .code-at3 .ensures
-    ])
+    ]))
 
 pub numbers-spec : {M : Type 1} → statement M
 numbers-spec =
@@ -148,8 +148,8 @@ numbers-spec =
     enum-known-blue
     enum-told-4
     returns-4
-    cast-t13
-    cast-t14
-    cast-t15
-    cast-t16
+    cast-t17
+    cast-t18
+    cast-t19
+    cast-t20
     returns-5)

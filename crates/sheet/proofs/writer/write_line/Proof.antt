@@ -21,7 +21,7 @@ enum-told : tie.Need-enum-told
 enum-told c = search needs
 
 put-line-requires : tie.Need-put-line-requires
-unfolding writtenNumber sheetNumbers
+unfolding sheetNumbers
 put-line-requires c κs =
     let d = c .before .before .before in
     let a = d .before .before .before .before .before .args in
@@ -30,11 +30,14 @@ put-line-requires c κs =
     (d .before .name-good .ensures) refl (d .first-no .ensures) (ap writtenNumber (c .before .enum-told .given .1)) in
     (name-good _ (yes .named) .fits, yes .room)
 
+enum-told-2 : tie.Need-enum-told-2
+enum-told-2 c = search needs
+
 same-length : tie.Need-same-length
 same-length c = search needs
 
 returns : tie.Need-returns
-unfolding writtenNumber sheetNumbers
+unfolding sheetNumbers
 returns c =
     let e = c .before .before .before .before in
     let d = e .before .before in
@@ -43,8 +46,8 @@ returns c =
 returns-2 : tie.Need-returns-2
 unfolding sheetNumbers
 returns-2 c =
-    let d = c .before in
-    left-alone _ _ _ _ _ _ _ (d .before .before .codes-fit .ensures) (d .before .name-good .ensures) refl (d .first-no .ensures) (refused _ (c .match .keys2))
+    let d = c .before .before in
+    left-alone _ _ _ _ _ _ _ (d .before .before .codes-fit .ensures) (d .before .name-good .ensures) refl (d .first-no .ensures) (refused _ _ (c .enum-told2 .given .1))
 
 pub write-line-spec : {M : Type 1} → statement M
 write-line-spec =
@@ -55,6 +58,7 @@ write-line-spec =
     first-no-requires
     enum-told
     put-line-requires
+    enum-told-2
     same-length
     returns
     returns-2)
