@@ -43,12 +43,14 @@ unfoldable pub sampleRowsOf : Layout → ℕ → List Placed → List Placed →
 sampleRowsOf L n ordered [] = []
 sampleRowsOf L n ordered (x ∷ rest) = map (sampleWord n ordered x) (L .sample) ++ sampleRowsOf L n ordered rest
 
--- The sample table's words: the count, the settings, and a row for each sample by arrival.
+-- The words before the first sample row: the count and the settings.
+abbrev pub headerWords : Layout → ℕ → Settings → List ℕ
+headerWords L n s = n ∷ map (settingWord s) (L .settings)
+
+-- The sample table's words: these, and a row for each sample by arrival.
 unfoldable pub sampleWords : Layout → SampleSet → List ℕ
 sampleWords L set =
-    length (set .samples)
-    ∷ map (settingWord (set .settings)) (L .settings)
-    ++ sampleRowsOf L (length (set .samples)) (order set) (placed set)
+    headerWords L (length (set .samples)) (set .settings) ++ sampleRowsOf L (length (set .samples)) (order set) (placed set)
 
 -- Octants are numbered from 0, an octant before its children and child 0's whole subtree before child 1's.
 -- This is the number of child k, of side 2 ^ j, of the split octant number `at` that holds xs.

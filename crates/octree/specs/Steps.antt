@@ -7,14 +7,16 @@ use mathlib.Core.Path.{_≡_}
 use lib.Dec.{eqb, leb}
 use lib.ListN.{length, getD, take}
 use Rattle.colour.specs.declared.Sample.{Sample}
+use Rattle.colour.specs.declared.Settings.{Settings}
 use Rattle.colour.specs.Octant.{depths}
 use Rattle.colour.specs.Question.{Question, asks, firstNo}
+use Rattle.colour.specs.Refusal.{refusalNumber}
 use Rattle.model.specs.Lists.{keep, padded}
 use Rattle.model.specs.SampleSet.{Placed, placedFrom, orderOf, octantsOf, octants}
-use Rattle.model.specs.Layout.{Bucket, Next, current, octantWidth, sampleRows, octantRows}
-use Rattle.model.specs.Tables.{nextRow, settingWord, sampleRowsOf, octantRowsOf, pair, tablesFor}
+use Rattle.model.specs.Layout.{Next, current, sampleHeader, octantWidth, sampleRows, octantRows}
+use Rattle.model.specs.Tables.{nextRow, headerWords, sampleRowsOf, octantRowsOf, pair, tablesFor}
 use Rattle.model.specs.Sound.{distinct, codesInRange}
-use Rattle.words.specs.Rows.{sampleField, settingIn, countIn, samplesFrom, setOf}
+use Rattle.words.specs.Rows.{sampleField, settingsIn, countIn, firstSamples, setOf}
 use Rattle.order.specs.Entries.{view, entriesOf}
 use Rattle.octree.specs.declared.rows.Compared.{Compared}
 use Rattle.octree.specs.declared.rows.Compared.the-variants as C
@@ -67,6 +69,11 @@ pub record RowsOnce (n : ℕ) (es : List ℕ) : Type 0 where
   pub most : (row : ℕ) → timesRow row (view es) ≤ 1
   pub found : (row : ℕ) → row < n → 1 ≤ timesRow row (view es)
 
+-- The entries of the samples in a table's first rows, in any sequence.
+pub record RowsGiven (ws es : List ℕ) : Type 0 where
+  pub few : length es ≤ sampleRows current (length ws)
+  pub once : RowsOnce (length es) es
+
 -- The next words of n rows are those of the order in which the entries stand.
 abbrev pub NextsAre : ℕ → List ℕ → List ℕ → Type 0
 NextsAre n es ws = (i : ℕ) → i < n → sampleField current ws i Next ≡ nextRow n i (view es)
@@ -79,16 +86,14 @@ fitsRows b es sampleLength octantLength =
     ∷ []
 
 -- The paper's number for each answer of the judging function.
-unfoldable pub fitNumber : Fit → ℕ
+abbrev pub fitNumber : Fit → ℕ
 fitNumber (F.Fits n) = 0
-fitNumber F.NoRow = 6
-fitNumber F.NoOctants = 7
+fitNumber (F.Refused r) = refusalNumber r
 
 -- The octant count, where it fits.
 unfoldable pub fitOctants : Fit → Option ℕ
 fitOctants (F.Fits n) = some n
-fitOctants F.NoRow = none
-fitOctants F.NoOctants = none
+fitOctants (F.Refused r) = none
 
 -- What a judged list comes to: the number, the octant count where it is 0, and then the entries in their order.
 pub record Judged (b : ℕ) (before after : List ℕ) (sampleLength octantLength : ℕ) (r : Fit) : Type 0 where
@@ -96,44 +101,43 @@ pub record Judged (b : ℕ) (before after : List ℕ) (sampleLength octantLength
   pub octants : (n : ℕ) → fitOctants r ≡ some n → n ≡ octantsOf b depths (view before)
   pub order : (n : ℕ) → fitOctants r ≡ some n → view after ≡ orderOf b depths (view before)
 
--- The sample table of a list of samples with a bucket size and an order; the octant table of ordered entries.
-unfoldable pub sampleTableBy : ℕ → ℕ → List Placed → List Sample → List ℕ
-sampleTableBy len b ordered xs =
-    padded len
-    (length xs ∷ map (settingWord (record { bucket = b })) (current .settings) ++ sampleRowsOf current (length xs) ordered (placedFrom 0 xs))
+-- The sample table of a list of samples with settings and an order; the octant table of ordered entries.
+unfoldable pub sampleTableBy : ℕ → Settings → List Placed → List Sample → List ℕ
+sampleTableBy len s ordered xs =
+    padded len (headerWords current (length xs) s ++ sampleRowsOf current (length xs) ordered (placedFrom 0 xs))
 
 unfoldable pub octantTableBy : ℕ → ℕ → List ℕ → List ℕ
 octantTableBy len b es = padded len (octantsOf b depths (view es) ∷ rowsOf b depths 0 es)
 
 -- What writing the tables of the samples in the first rows asks: they fit, and the entries are theirs in their order.
-pub record Writable (b : ℕ) (ws : List ℕ) (octantLength : ℕ) (ordered : List ℕ) : Type 0 where
-  pub sample-words : 2 ≤ length ws
+pub record Writable (s : Settings) (ws : List ℕ) (octantLength : ℕ) (ordered : List ℕ) : Type 0 where
+  pub sample-words : sampleHeader current ≤ length ws
   pub octant-words : 1 ≤ octantLength
   pub few : length ordered ≤ sampleRows current (length ws)
-  pub order : view ordered ≡ orderOf b depths (view (entriesOf (samplesFrom current ws 0 (length ordered))))
-  pub room : octants (setOf current ws b (length ordered)) ≤ octantRows current octantLength
+  pub order : view ordered ≡ orderOf (s .bucket) depths (view (entriesOf (firstSamples current ws (length ordered))))
+  pub room : octants (setOf current ws s (length ordered)) ≤ octantRows current octantLength
 
--- What is known where a table's header is right: the count is n, the bucket size b, and n rows are there.
-pub record Headed (b : ℕ) (ws os : List ℕ) (n scratch : ℕ) : Type 0 where
-  pub sample-words : 2 ≤ length ws
+-- What is known where a table's header is right: the count is n, the settings are s, and n rows are there.
+pub record Headed (s : Settings) (ws os : List ℕ) (n scratch : ℕ) : Type 0 where
+  pub sample-words : sampleHeader current ≤ length ws
   pub octant-words : 1 ≤ length os
   pub few : n ≤ sampleRows current (length ws)
   pub space : n ≤ scratch
   pub counted : countIn ws ≡ n
-  pub bucket : settingIn current ws Bucket ≡ b
+  pub settings : settingsIn current ws ≡ s
 
 -- And where the entries of its samples are listed by arrival.
-pub record Listed (b : ℕ) (ws os es : List ℕ) (scratch : ℕ) : Type 0 where
-  pub headed : Headed b ws os (length es) scratch
-  pub entries : es ≡ entriesOf (samplesFrom current ws 0 (length es))
+pub record Listed (s : Settings) (ws os es : List ℕ) (scratch : ℕ) : Type 0 where
+  pub headed : Headed s ws os (length es) scratch
+  pub entries : es ≡ entriesOf (firstSamples current ws (length es))
 
 -- The tables are those of the samples in the first n rows.
-pub record SameTables (b n : ℕ) (ws os : List ℕ) : Type 0 where
-  pub octants-fit : octants (setOf current ws b n) ≤ octantRows current (length os)
-  pub words : pair ws os ≡ tablesFor current (setOf current ws b n) (length ws) (length os)
+pub record SameTables (s : Settings) (n : ℕ) (ws os : List ℕ) : Type 0 where
+  pub octants-fit : octants (setOf current ws s n) ≤ octantRows current (length os)
+  pub words : pair ws os ≡ tablesFor current (setOf current ws s n) (length ws) (length os)
 
 -- And these samples are a set's: what is left to check where the header is right.
-pub record Holds (b n : ℕ) (ws os : List ℕ) : Type 0 where
-  pub tags-distinct : distinct (samplesFrom current ws 0 n)
-  pub in-range : codesInRange (samplesFrom current ws 0 n)
-  pub tables : SameTables b n ws os
+pub record Holds (s : Settings) (n : ℕ) (ws os : List ℕ) : Type 0 where
+  pub tags-distinct : distinct (firstSamples current ws n)
+  pub in-range : codesInRange (firstSamples current ws n)
+  pub tables : SameTables s n ws os

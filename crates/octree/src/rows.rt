@@ -52,7 +52,8 @@ fn child_word(size: usize, number: u32) -> u32
 pub fn build(part: &[u64], bucket: usize, left: u32, number: u32, rows: &mut [u32]) -> u32
     requires { ⌜ Rooted bucket left number (now part) (length (now rows)) ⌝ }
     ensures octants { λ r. ⌜ r ≡ octantsOf bucket left (view (now (part .entry))) ⌝ }
-    ensures rows { λ r. ⌜ now (rows .exit) ≡ rowsOf bucket left number (now (part .entry)) ++ drop (octantWidth current * r) (now (rows .entry)) ⌝ }
+    ensures rows { λ r. ⌜ now (rows .exit)
+        ≡ rowsOf bucket left number (now (part .entry)) ++ drop (octantWidth current * r) (now (rows .entry)) ⌝ }
 {
     let n = part.len();
     if n == 0 {

@@ -4,13 +4,13 @@ use crate::next::put_all;
 use crate::rows::Compared;
 use crate::rows::build;
 use crate::rows::compare;
+use colour::Settings;
+use colour::refusal::Refusal;
 use order::entry::fill;
 use order::order::DEPTHS;
 use order::order::order;
 use order::tags::all_apart;
 use words::layout::MOST_SAMPLES;
-use words::layout::bucket as bucket_of;
-use words::layout::bucket_fits;
 use words::layout::count as count_of;
 use words::layout::long_enough;
 use words::layout::octant_rows;
@@ -19,6 +19,8 @@ use words::layout::put_count;
 use words::layout::put_header;
 use words::layout::sample_rows;
 use words::layout::sample_start;
+use words::layout::settings as settings_of;
+use words::layout::settings_fit;
 use words::zeros::are_zero;
 use words::zeros::clear;
 ghost use Prim.Native.Nat.{_≤_, _<_};
@@ -28,56 +30,59 @@ ghost use mathlib.Core.Path.{_≡_};
 ghost use lib.ListN.{length};
 ghost use Rattle.colour.specs.Octant.{depths};
 ghost use Rattle.model.specs.SampleSet.{octantsOf};
-ghost use Rattle.model.specs.Layout.{Bucket, current, sampleRows, octantRows};
-ghost use Rattle.model.specs.Tables.{pair, tablesFor};
+ghost use Rattle.model.specs.Layout.{current, sampleHeader, octantRows};
+ghost use Rattle.model.specs.Tables.{tablesLent, tablesLeft, tablesFor};
 ghost use Rattle.model.specs.Meets.{CheckMeets};
-ghost use Rattle.words.specs.Rows.{countIn, settingIn, samplesFrom, setOf};
+ghost use Rattle.words.specs.Rows.{countIn, settingsIn, firstSamples, setOf};
 ghost use Rattle.order.specs.Entries.{view};
-ghost use Rattle.octree.specs.Steps.{Ordered, RowsOnce, Judged, Writable, Headed, Listed, SameTables, Holds, sampleTableBy, octantTableBy};
+ghost use Rattle.octree.specs.Steps.{Ordered, RowsGiven, Judged, Writable, Headed, Listed, SameTables, Holds};
+ghost use Rattle.octree.specs.Steps.{sampleTableBy, octantTableBy};
 
-// Whether a list of samples finds rows and its tree finds octant rows: questions 6 and 7.
+// Whether a list of samples finds rows and its tree finds octant rows, and how many octants that is: questions 6 and 7.
 pub enum Fit {
     Fits(u32),
-    NoRow,
-    NoOctants,
+    Refused(Refusal),
 }
 
 // Judges a list of samples by its entries, for tables of these lengths, and puts the entries in their order.
 pub fn judge(
     entries: &mut [u64],
     scratch: &mut [u64],
-    bucket: u32,
+    settings: Settings,
     samples: usize,
     octants: usize,
 ) -> Fit
     requires { ⌜ (length (now entries) ≤ 4096) × (length (now entries) ≤ length (now scratch)) ⌝ }
-    ensures { λ r. ⌜ Judged bucket (now (entries .entry)) (now (entries .exit)) samples octants r ⌝ }
+    ensures { λ r. ⌜ Judged (settings .bucket) (now (entries .entry)) (now (entries .exit)) samples octants r ⌝ }
 {
     if sample_rows(samples) < entries.len() {
-        return Fit::NoRow;
+        return Fit::Refused(Refusal::NoRow);
     }
-    let found = order(entries, scratch, bucket as usize, DEPTHS);
+    let found = order(entries, scratch, settings.bucket as usize, DEPTHS);
     if octant_rows(octants) < (found as usize) {
-        return Fit::NoOctants;
+        return Fit::Refused(Refusal::NoOctants);
     }
     Fit::Fits(found)
 }
 
 // Writes the sample table of the samples in its first rows, given their entries in their order.
-fn write_samples(samples: &mut [u32], bucket: u32, ordered: &[u64])
-    requires { ⌜ (2 ≤ length (now samples)) × (length (now ordered) ≤ sampleRows current (length (now samples))) × (RowsOnce (length (now ordered)) (now ordered)) ⌝ }
-    ensures { λ _. ⌜ now (samples .exit) ≡ sampleTableBy (length (now (samples .entry))) bucket (view (now (ordered .entry))) (samplesFrom current (now (samples .entry)) 0 (length (now (ordered .entry)))) ⌝ }
+fn write_samples(samples: &mut [u32], settings: Settings, ordered: &[u64])
+    requires { ⌜ (sampleHeader current ≤ length (now samples)) × (RowsGiven (now samples) (now ordered)) ⌝ }
+    ensures { λ _. ⌜ now (samples .exit)
+        ≡ sampleTableBy (length (now (samples .entry))) settings (view (now (ordered .entry)))
+        (firstSamples current (now (samples .entry)) (length (now (ordered .entry)))) ⌝ }
 {
     let n = ordered.len();
     put_all(samples, ordered);
-    put_header(samples, n as u32, bucket);
+    put_header(samples, n as u32, settings);
     let from = sample_start(n);
     clear(&mut samples[from..]);
 }
 
 // Writes the octant table of ordered entries.
 fn write_octants(octants: &mut [u32], bucket: u32, ordered: &[u64])
-    requires { ⌜ (1 ≤ length (now octants)) × (length (now ordered) ≤ 4096) × (Ordered bucket depths (now ordered)) × (octantsOf bucket depths (view (now ordered)) ≤ octantRows current (length (now octants))) ⌝ }
+    requires { ⌜ (1 ≤ length (now octants)) × (length (now ordered) ≤ 4096) × (Ordered bucket depths (now ordered))
+        × (octantsOf bucket depths (view (now ordered)) ≤ octantRows current (length (now octants))) ⌝ }
     ensures { λ _. ⌜ now (octants .exit) ≡ octantTableBy (length (now (octants .entry))) bucket (now (ordered .entry)) ⌝ }
 {
     let start = octant_start(0);
@@ -88,18 +93,23 @@ fn write_octants(octants: &mut [u32], bucket: u32, ordered: &[u64])
 }
 
 // Writes the tables of the samples that stand in the first rows, as many as there are entries.
-pub fn write(samples: &mut [u32], octants: &mut [u32], bucket: u32, ordered: &[u64])
-    requires { ⌜ Writable bucket (now samples) (length (now octants)) (now ordered) ⌝ }
-    ensures { λ _. ⌜ pair (now (samples .exit)) (now (octants .exit)) ≡ tablesFor current (setOf current (now (samples .entry)) bucket (length (now (ordered .entry)))) (length (now (samples .entry))) (length (now (octants .entry))) ⌝ }
+pub fn write(samples: &mut [u32], octants: &mut [u32], settings: Settings, ordered: &[u64])
+    requires { ⌜ Writable settings (now samples) (length (now octants)) (now ordered) ⌝ }
+    ensures { λ _. ⌜ tablesLeft samples octants
+        ≡ tablesFor current (setOf current (now (samples .entry)) settings (length (now (ordered .entry))))
+        (length (now (samples .entry))) (length (now (octants .entry))) ⌝ }
 {
-    write_samples(samples, bucket, ordered);
-    write_octants(octants, bucket, ordered);
+    write_samples(samples, settings, ordered);
+    write_octants(octants, settings.bucket, ordered);
 }
 
 // Whether the sample table is that of the samples in its first rows, given their entries in their order; the header is known to be right.
 fn samples_are(samples: &[u32], ordered: &[u64]) -> bool
-    requires { ⌜ (2 ≤ length (now samples)) × (length (now ordered) ≤ sampleRows current (length (now samples))) × (RowsOnce (length (now ordered)) (now ordered)) × (countIn (now samples) ≡ length (now ordered)) ⌝ }
-    ensures { λ r. ⌜ (r ≡ true) ↔ (now (samples .entry) ≡ sampleTableBy (length (now (samples .entry))) (settingIn current (now (samples .entry)) Bucket) (view (now (ordered .entry))) (samplesFrom current (now (samples .entry)) 0 (length (now (ordered .entry))))) ⌝ }
+    requires { ⌜ (sampleHeader current ≤ length (now samples)) × (RowsGiven (now samples) (now ordered))
+        × (countIn (now samples) ≡ length (now ordered)) ⌝ }
+    ensures { λ r. ⌜ (r ≡ true) ↔ (now (samples .entry)
+        ≡ sampleTableBy (length (now (samples .entry))) (settingsIn current (now (samples .entry))) (view (now (ordered .entry)))
+        (firstSamples current (now (samples .entry)) (length (now (ordered .entry))))) ⌝ }
 {
     if !all_are(samples, ordered) {
         return false;
@@ -110,8 +120,10 @@ fn samples_are(samples: &[u32], ordered: &[u64]) -> bool
 
 // Whether the octant table is that of ordered entries, which come to so many octants.
 fn octants_are(octants: &[u32], bucket: u32, count: u32, ordered: &[u64]) -> bool
-    requires { ⌜ (1 ≤ length (now octants)) × (length (now ordered) ≤ 4096) × (Ordered bucket depths (now ordered)) × (count ≡ octantsOf bucket depths (view (now ordered))) × (count ≤ octantRows current (length (now octants))) ⌝ }
-    ensures { λ r. ⌜ (r ≡ true) ↔ (now (octants .entry) ≡ octantTableBy (length (now (octants .entry))) bucket (now (ordered .entry))) ⌝ }
+    requires { ⌜ (1 ≤ length (now octants)) × (length (now ordered) ≤ 4096) × (Ordered bucket depths (now ordered))
+        × (count ≡ octantsOf bucket depths (view (now ordered))) × (count ≤ octantRows current (length (now octants))) ⌝ }
+    ensures { λ r. ⌜ (r ≡ true)
+        ↔ (now (octants .entry) ≡ octantTableBy (length (now (octants .entry))) bucket (now (ordered .entry))) ⌝ }
 {
     if count_of(octants) != count {
         return false;
@@ -129,32 +141,33 @@ fn octants_are(octants: &[u32], bucket: u32, count: u32, ordered: &[u64]) -> boo
 fn same_tables(
     samples: &[u32],
     octants: &[u32],
-    bucket: u32,
+    settings: Settings,
     entries: &mut [u64],
     scratch: &mut [u64],
 ) -> bool
-    requires { ⌜ Listed bucket (now samples) (now octants) (now entries) (length (now scratch)) ⌝ }
-    ensures { λ r. ⌜ (r ≡ true) ↔ (SameTables bucket (length (now (entries .entry))) (now (samples .entry)) (now (octants .entry))) ⌝ }
+    requires { ⌜ Listed settings (now samples) (now octants) (now entries) (length (now scratch)) ⌝ }
+    ensures { λ r. ⌜ (r ≡ true)
+        ↔ (SameTables settings (length (now (entries .entry))) (now (samples .entry)) (now (octants .entry))) ⌝ }
 {
-    let Fit::Fits(count) = judge(entries, scratch, bucket, samples.len(), octants.len()) else {
+    let Fit::Fits(count) = judge(entries, scratch, settings, samples.len(), octants.len()) else {
         return false;
     };
     if !samples_are(samples, entries) {
         return false;
     }
-    octants_are(octants, bucket, count, entries)
+    octants_are(octants, settings.bucket, count, entries)
 }
 
 // Whether the tables are those of the samples in the first rows, as many as there are places for entries.
 fn hold(
     samples: &[u32],
     octants: &[u32],
-    bucket: u32,
+    settings: Settings,
     entries: &mut [u64],
     scratch: &mut [u64],
 ) -> bool
-    requires { ⌜ Headed bucket (now samples) (now octants) (length (now entries)) (length (now scratch)) ⌝ }
-    ensures { λ r. ⌜ (r ≡ true) ↔ (Holds bucket (length (now (entries .entry))) (now (samples .entry)) (now (octants .entry))) ⌝ }
+    requires { ⌜ Headed settings (now samples) (now octants) (length (now entries)) (length (now scratch)) ⌝ }
+    ensures { λ r. ⌜ (r ≡ true) ↔ (Holds settings (length (now (entries .entry))) (now (samples .entry)) (now (octants .entry))) ⌝ }
 {
     if !all_apart(samples, entries, scratch) {
         return false;
@@ -162,18 +175,18 @@ fn hold(
     if !fill(samples, entries) {
         return false;
     }
-    same_tables(samples, octants, bucket, entries, scratch)
+    same_tables(samples, octants, settings, entries, scratch)
 }
 
 // The checking call: whether the tables are those of some set. It reads the set off the sample table and compares every word.
 pub fn check(samples: &[u32], octants: &[u32]) -> bool
-    ensures { λ r. ⌜ CheckMeets (pair (now (samples .entry)) (now (octants .entry))) r ⌝ }
+    ensures { λ r. ⌜ CheckMeets (tablesLent samples octants) r ⌝ }
 {
     if !long_enough(samples.len(), octants.len()) {
         return false;
     }
-    let bucket = bucket_of(samples);
-    if !bucket_fits(bucket) {
+    let settings = settings_of(samples);
+    if !settings_fit(settings) {
         return false;
     }
     let n = count_of(samples) as usize;
@@ -182,5 +195,11 @@ pub fn check(samples: &[u32], octants: &[u32]) -> bool
     }
     let mut entries = [0u64; MOST_SAMPLES];
     let mut scratch = [0u64; MOST_SAMPLES];
-    hold(samples, octants, bucket, &mut entries[..n], &mut scratch)
+    hold(
+        samples,
+        octants,
+        settings,
+        &mut entries[..n],
+        &mut scratch,
+    )
 }

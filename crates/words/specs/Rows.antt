@@ -5,6 +5,7 @@ use mathlib.Core.List.{List, [], _∷_, map}
 use lib.Dec.{eqb}
 use lib.ListN.{length, getD, set}
 use Rattle.colour.specs.declared.Sample.{Sample}
+use Rattle.colour.specs.declared.Settings.{Settings}
 use Rattle.colour.specs.Colour.{Red, Green, Blue, colourBy}
 use Rattle.colour.specs.Octant.{bitWeight}
 use Rattle.model.specs.SampleSet.{SampleSet}
@@ -56,6 +57,10 @@ octantField L os i f = getD os (octantAt L f i) 0
 unfoldable pub settingIn : Layout → List ℕ → Setting → ℕ
 settingIn L ws s = getD ws (suc (place settingId s (L .settings))) 0
 
+-- The settings that a sample table's header says.
+abbrev pub settingsIn : Layout → List ℕ → Settings
+settingsIn L ws = record { bucket = settingIn L ws Bucket }
+
 -- The count that a table of either kind starts with.
 unfoldable pub countIn : List ℕ → ℕ
 countIn ws = getD ws 0 0
@@ -88,9 +93,13 @@ unfoldable pub samplesFrom : Layout → List ℕ → ℕ → ℕ → List Sample
 samplesFrom L ws i zero = []
 samplesFrom L ws i (suc n) = sampleIn L ws i ∷ samplesFrom L ws (suc i) n
 
--- The set of n samples that a sample table's rows say, with a bucket size.
-unfoldable pub setOf : Layout → List ℕ → ℕ → ℕ → SampleSet
-setOf L ws b n = record { settings = record { bucket = b }; samples = samplesFrom L ws 0 n }
+-- Those in the first n rows.
+abbrev pub firstSamples : Layout → List ℕ → ℕ → List Sample
+firstSamples L ws n = samplesFrom L ws 0 n
+
+-- The set of n samples that a sample table's rows say, with settings.
+unfoldable pub setOf : Layout → List ℕ → Settings → ℕ → SampleSet
+setOf L ws s n = record { settings = s; samples = firstSamples L ws n }
 
 -- A word of an octant row, from what the row says.
 unfoldable pub octantFieldOf : ℕ → ℕ → ℕ → List ℕ → OctantField → ℕ

@@ -1,6 +1,7 @@
 // Which word of the tables stands where. Nothing else knows an offset.
 use colour::Colour;
 use colour::Sample;
+use colour::Settings;
 ghost use Prim.Native.Nat.{_+_, _*_, _^_, _≤_, _<_, min};
 ghost use mathlib.Core.Bool.{true, _&&_};
 ghost use mathlib.Core.Logic.{_↔_};
@@ -9,8 +10,12 @@ ghost use lib.Dec.{leb};
 ghost use mathlib.Core.List.{_∷_, _++_};
 ghost use lib.ListN.{length, take, drop, set};
 ghost use Rattle.colour.specs.Colour.{colourBy};
-ghost use Rattle.model.specs.Layout.{Bucket, Tag, Code, Next, First, Count, Child, current, sampleHeader, octantHeader, sampleRows, octantRows, octantWidth};
-ghost use Rattle.words.specs.Rows.{sampleStart, octantStart, sampleAt, sampleField, octantField, settingIn, countIn, octantLimit, sampleBudget, sampleIn, withSample, octantRowBy};
+ghost use Rattle.model.specs.SampleSet.{settingsGood};
+ghost use Rattle.model.specs.Layout.{Tag, Code, Next, First, Count, Child, current};
+ghost use Rattle.model.specs.Layout.{sampleHeader, octantHeader, sampleRows, octantRows, octantWidth};
+ghost use Rattle.model.specs.Tables.{headerWords};
+ghost use Rattle.words.specs.Rows.{sampleStart, octantStart, sampleAt, sampleField, octantField, settingsIn, countIn};
+ghost use Rattle.words.specs.Rows.{octantLimit, sampleBudget, sampleIn, withSample, octantRowBy};
 
 // The words before the first row, and the words of a row.
 const SAMPLE_HEADER: usize = 2;
@@ -20,6 +25,9 @@ const SAMPLE_WIDTH: usize = 5;
 const OCTANT_HEADER: usize = 1;
 
 const OCTANT_WIDTH: usize = 11;
+
+// The place of the bucket size in the sample table's header.
+const BUCKET: usize = 1;
 
 // The places in a sample row.
 const RED: usize = 1;
@@ -47,10 +55,11 @@ pub fn long_enough(samples: usize, octants: usize) -> bool
     SAMPLE_HEADER <= samples && OCTANT_HEADER <= octants
 }
 
-// Whether a bucket size is one: question 3.
-pub fn bucket_fits(bucket: u32) -> bool
-    ensures { λ r. ⌜ r ≡ (leb 1 bucket && leb bucket 256) ⌝ }
+// Whether settings are ones that a clear may set: question 3.
+pub fn settings_fit(settings: Settings) -> bool
+    ensures { λ r. ⌜ r ≡ settingsGood settings ⌝ }
 {
+    let bucket = settings.bucket;
     1 <= bucket && bucket <= 256
 }
 
@@ -110,12 +119,12 @@ pub fn count(table: &[u32]) -> u32
     table[0]
 }
 
-// The bucket size that a sample table says.
-pub fn bucket(samples: &[u32]) -> u32
-    requires { ⌜ 2 ≤ length (now samples) ⌝ }
-    ensures { λ r. ⌜ r ≡ settingIn current (now (samples .entry)) Bucket ⌝ }
+// The settings that a sample table says.
+pub fn settings(samples: &[u32]) -> Settings
+    requires { ⌜ sampleHeader current ≤ length (now samples) ⌝ }
+    ensures { λ r. ⌜ r ≡ settingsIn current (now (samples .entry)) ⌝ }
 {
-    samples[1]
+    Settings { bucket: samples[BUCKET] }
 }
 
 // The lesser of the count that a table says and the rows that it has.
@@ -139,7 +148,7 @@ pub fn octant_limit(octants: &[u32]) -> u32
 
 // The samples that are there to be read, whatever the words are.
 pub fn sample_budget(samples: &[u32]) -> u32
-    requires { ⌜ 2 ≤ length (now samples) ⌝ }
+    requires { ⌜ sampleHeader current ≤ length (now samples) ⌝ }
     ensures is { λ r. ⌜ r ≡ sampleBudget current (now (samples .entry)) ⌝ }
     ensures bounded { λ r. ⌜ r ≤ 4096 ⌝ }
 {
@@ -212,12 +221,12 @@ pub fn put_next(samples: &mut [u32], i: usize, next: u32)
 }
 
 // Sets the words before the first sample row: the count and the settings.
-pub fn put_header(samples: &mut [u32], count: u32, bucket: u32)
-    requires { ⌜ 2 ≤ length (now samples) ⌝ }
-    ensures { λ _. ⌜ now (samples .exit) ≡ count ∷ bucket ∷ drop (sampleHeader current) (now (samples .entry)) ⌝ }
+pub fn put_header(samples: &mut [u32], count: u32, settings: Settings)
+    requires { ⌜ sampleHeader current ≤ length (now samples) ⌝ }
+    ensures { λ _. ⌜ now (samples .exit) ≡ headerWords current count settings ++ drop (sampleHeader current) (now (samples .entry)) ⌝ }
 {
     samples[0] = count;
-    samples[1] = bucket;
+    samples[BUCKET] = settings.bucket;
 }
 
 // Sets the word before the first octant row.

@@ -9,36 +9,37 @@ use borrow.Author.Tests.{le-leb, leb-true, not-true}
 use lib.Dec.{leb}
 use lib.ListN.{length, getD, take, replicate, length-replicate}
 use lib.Seq.{length-take-le, getD-append-add}
-use Rattle.model.specs.Layout.{current, Bucket, sampleHeader, octantHeader, sampleRows, octantRows}
+use Rattle.colour.specs.declared.Settings.{Settings}
+use Rattle.model.specs.Layout.{current, sampleHeader, octantHeader, sampleRows, octantRows}
 use Rattle.model.specs.Lists.{padded}
 use Rattle.model.specs.Machine.{Machine, tablesOf}
 use Rattle.model.specs.Meets.{CheckMeets}
-use Rattle.model.specs.SampleSet.{SampleSet, octants}
+use Rattle.model.specs.SampleSet.{SampleSet, settingsGood, octants}
 use Rattle.model.specs.Sound.{codesInRange, distinct, Shows, Sound, longEnough}
 use Rattle.model.specs.Tables.{sampleWords, pair, tablesFor, Tables}
 use Rattle.model.proofs.Tables.Numbers.{current-numbers}
 use Rattle.model.proofs.Tables.Size.{sample-words-length}
 use Rattle.model.proofs.Tables.Unique as unique
-use Rattle.words.specs.Rows.{sampleStart, settingIn, countIn, samplesFrom, setOf}
+use Rattle.words.specs.Rows.{sampleStart, settingsIn, countIn, samplesFrom, setOf}
 use Rattle.words.proofs.Laws.Answers.{says-no, refuted}
 use Rattle.words.proofs.Laws.Layout.Samples.{samples-length}
 use Rattle.order.specs.Entries.{entriesOf}
 use Rattle.octree.specs.Steps.{Headed, SameTables, Holds, Listed}
-use Rattle.octree.proofs.Laws.Tables.Reading.{count-read, bucket-read, samples-read}
+use Rattle.octree.proofs.Laws.Tables.Reading.{count-read, settings-read, samples-read}
 
 -- The tags and the codes beside. Entries keep their number through the calls: n at first, then m, then those of es.
-module _ (b n : ℕ) (ws os : List ℕ) where
-  pub twice : (q : Bool) → not q ≡ true → (q ≡ true) ↔ distinct (samplesFrom current ws 0 n) → (false ≡ true) ↔ Holds b n ws os
+module _ (s : Settings) (n : ℕ) (ws os : List ℕ) where
+  pub twice : (q : Bool) → not q ≡ true → (q ≡ true) ↔ distinct (samplesFrom current ws 0 n) → (false ≡ true) ↔ Holds s n ws os
   twice q off t = refuted q off t (λ h. h .tags-distinct)
 
   module _ (m : ℕ) (kept : m ≡ n) where
-    pub out-of-range : (q : Bool) → not q ≡ true → (codesInRange (samplesFrom current ws 0 m) → q ≡ true) → (false ≡ true) ↔ Holds b n ws os
+    pub out-of-range : (q : Bool) → not q ≡ true → (codesInRange (samplesFrom current ws 0 m) → q ≡ true) → (false ≡ true) ↔ Holds s n ws os
     out-of-range q off t =
         says-no (λ h. false≢true (sym (not-true q off) ∙ t (subst (λ (k : ℕ). codesInRange (samplesFrom current ws 0 k)) (sym kept) (h .in-range))))
 
     module _ (es : List ℕ) (as-long : length es ≡ m) where
-      pub now-listed : (scratch scratch′ : ℕ) → Headed b ws os n scratch → scratch′ ≡ scratch
-          → es ≡ entriesOf (samplesFrom current ws 0 m) → Listed b ws os es scratch′
+      pub now-listed : (scratch scratch′ : ℕ) → Headed s ws os n scratch → scratch′ ≡ scratch
+          → es ≡ entriesOf (samplesFrom current ws 0 m) → Listed s ws os es scratch′
       now-listed scratch scratch′ h e entries =
           record {
             headed =
@@ -48,21 +49,21 @@ module _ (b n : ℕ) (ws os : List ℕ) where
                   few = omega (arith, kept, as-long, h .few);
                   space = omega (arith, kept, as-long, h .space);
                   counted = h .counted ∙ sym (as-long ∙ kept);
-                  bucket = h .bucket;
+                  settings = h .settings;
                 };
             entries = entries ∙ ap (λ (k : ℕ). entriesOf (samplesFrom current ws 0 k)) (sym as-long);
           }
 
       pub set-tells : distinct (samplesFrom current ws 0 n) → codesInRange (samplesFrom current ws 0 m) → (q : Bool)
-          → (q ≡ true) ↔ SameTables b (length es) ws os → (q ≡ true) ↔ Holds b n ws os
+          → (q ≡ true) ↔ SameTables s (length es) ws os → (q ≡ true) ↔ Holds s n ws os
       set-tells d i q t =
           Iff·trans t (
             λ same. record {
               tags-distinct = d;
               in-range = subst (λ (k : ℕ). codesInRange (samplesFrom current ws 0 k)) kept i;
-              tables = subst (λ (k : ℕ). SameTables b k ws os) (as-long ∙ kept) same;
+              tables = subst (λ (k : ℕ). SameTables s k ws os) (as-long ∙ kept) same;
             },
-            λ h. subst (λ (k : ℕ). SameTables b k ws os) (sym (as-long ∙ kept)) (h .tables),
+            λ h. subst (λ (k : ℕ). SameTables s k ws os) (sym (as-long ∙ kept)) (h .tables),
           )
 
 -- A word among zeros, or after them.
@@ -91,9 +92,9 @@ module _ (ws os : List ℕ) (m : Machine) (shows : Shows current m (pair ws os))
   unfolding padded
   count-shown = ap countIn sample-words ∙ count-read (m .set) zeros
 
-  pub bucket-shown : settingIn current ws Bucket ≡ m .set .settings .bucket
+  pub settings-shown : settingsIn current ws ≡ m .set .settings
   unfolding padded
-  bucket-shown = ap (λ (l : List ℕ). settingIn current l Bucket) sample-words ∙ bucket-read (m .set) zeros
+  settings-shown = ap (settingsIn current) sample-words ∙ settings-read (m .set) zeros
 
   samples-shown : samplesFrom current ws 0 (length (m .set .samples)) ≡ m .set .samples
   unfolding padded
@@ -113,15 +114,15 @@ module _ (ws os : List ℕ) (m : Machine) (shows : Shows current m (pair ws os))
       ∙ getD-zeros (m .sampleLength - length named) (p - length named)
 
   -- The set that they say is the machine's.
-  module _ (b c : ℕ) (is-bucket : settingIn current ws Bucket ≡ b) (is-count : countIn ws ≡ c) where
+  module _ (s : Settings) (c : ℕ) (are-settings : settingsIn current ws ≡ s) (is-count : countIn ws ≡ c) where
     pub said-samples : samplesFrom current ws 0 c ≡ m .set .samples
     said-samples = ap (samplesFrom current ws 0) (sym is-count ∙ count-shown) ∙ samples-shown
 
-    set-said : setOf current ws b c ≡ m .set
+    set-said : setOf current ws s c ≡ m .set
     unfolding setOf
-    set-said = λ i. record { settings = record { bucket = (sym is-bucket ∙ bucket-shown) i }; samples = said-samples i }
+    set-said = λ i. record { settings = (sym are-settings ∙ settings-shown) i; samples = said-samples i }
 
-    pub sound-holds : Holds b c ws os
+    pub sound-holds : Holds s c ws os
     unfolding tablesOf
     sound-holds =
         record {
@@ -156,14 +157,8 @@ module _ (ws os : List ℕ) where
       (sym e ∙ ap₂ (λ (x y : Bool). x && y) (le-leb (sampleHeader current) (length ws) headed-samples)
       (le-leb (octantHeader current) (length os) headed-octants)))
 
-  pub bucket-out : (leb 1 (settingIn current ws Bucket) && leb (settingIn current ws Bucket) 256) ≡ false → CheckMeets (pair ws os) false
-  bucket-out e =
-      no-machine
-      (λ m s.
-      let b : ℕ = settingIn current ws Bucket in
-      let low : 1 ≤ b = omega (arith, bucket-shown ws os m s, s .valid .bucket-low) in
-      let high : b ≤ 256 = omega (arith, bucket-shown ws os m s, s .valid .bucket-high) in
-      false≢true (sym e ∙ ap₂ (λ (x y : Bool). x && y) (le-leb 1 b low) (le-leb b 256 high)))
+  pub settings-out : settingsGood (settingsIn current ws) ≡ false → CheckMeets (pair ws os) false
+  settings-out e = no-machine (λ m s. false≢true (sym e ∙ ap settingsGood (settings-shown ws os m s) ∙ s .valid .settings-good))
 
   pub rows-over : sampleRows current (length ws) < countIn ws → CheckMeets (pair ws os) false
   rows-over h =
@@ -171,17 +166,17 @@ module _ (ws os : List ℕ) where
       (λ m s. omega (arith, count-shown ws os m s, ap (sampleRows current) (sample-length ws os m s), s .valid .rows-fit))
 
 -- What the header's tests leave: long is what was said of the lengths, k the count, and n the places lent for it.
-pub both-long : (ws os : List ℕ) → longEnough current (pair ws os) ≡ true → (2 ≤ length ws) × (1 ≤ length os)
+pub both-long : (ws os : List ℕ) → longEnough current (pair ws os) ≡ true → (sampleHeader current ≤ length ws) × (1 ≤ length os)
 unfolding longEnough
 both-long ws os long =
     let h = and-eq-true-iff (leb (sampleHeader current) (length ws)) (leb (octantHeader current) (length os)) .0 long in (
-      omega (arith, current-numbers .sample-header, leb-true (sampleHeader current) (length ws) (h .0)),
+      leb-true (sampleHeader current) (length ws) (h .0),
       omega (arith, current-numbers .octant-header, leb-true (octantHeader current) (length os) (h .1)),
     )
 
-module _ (ws os : List ℕ) (b k n : ℕ) (long : longEnough current (pair ws os) ≡ true) (counted : k ≡ countIn ws)
-    (bucket : b ≡ settingIn current ws Bucket) (few : k ≤ sampleRows current (length ws)) (lent : k ≡ n) where
-  pub header-right : (scratch : ℕ) → n ≤ scratch → Headed b ws os n scratch
+module _ (ws os : List ℕ) (s : Settings) (k n : ℕ) (long : longEnough current (pair ws os) ≡ true) (counted : k ≡ countIn ws)
+    (settings : s ≡ settingsIn current ws) (few : k ≤ sampleRows current (length ws)) (lent : k ≡ n) where
+  pub header-right : (scratch : ℕ) → n ≤ scratch → Headed s ws os n scratch
   header-right scratch h =
       record {
         sample-words = both-long ws os long .0;
@@ -189,22 +184,21 @@ module _ (ws os : List ℕ) (b k n : ℕ) (long : longEnough current (pair ws os
         few = omega (arith, few, lent);
         space = h;
         counted = sym counted ∙ lent;
-        bucket = sym bucket;
+        settings = sym settings;
       }
 
-  shown-by : 1 ≤ b → b ≤ 256 → Holds b n ws os → Sound current (pair ws os)
+  shown-by : settingsGood s ≡ true → Holds s n ws os → Sound current (pair ws os)
   unfolding tablesOf setOf
-  shown-by low high h =
+  shown-by good h =
       record {
-        machine = record { set = setOf current ws b n; sampleLength = length ws; octantLength = length os };
+        machine = record { set = setOf current ws s n; sampleLength = length ws; octantLength = length os };
         shows =
             record {
               valid =
                   record {
-                    sample-words = omega (arith, current-numbers .sample-header, both-long ws os long .0);
+                    sample-words = both-long ws os long .0;
                     octant-words = omega (arith, current-numbers .octant-header, both-long ws os long .1);
-                    bucket-low = low;
-                    bucket-high = high;
+                    settings-good = good;
                     tags-distinct = h .tags-distinct;
                     in-range = h .in-range;
                     rows-fit = omega (arith, samples-length ws n 0, few, lent);
@@ -214,12 +208,11 @@ module _ (ws os : List ℕ) (b k n : ℕ) (long : longEnough current (pair ws os
             };
       }
 
-  pub checked : (leb 1 b && leb b 256) ≡ true → (r : Bool) → (r ≡ true) ↔ Holds b n ws os → CheckMeets (pair ws os) r
-  checked in-range r t =
-      let both = and-eq-true-iff (leb 1 b) (leb b 256) .0 in-range in
+  pub checked : settingsGood s ≡ true → (r : Bool) → (r ≡ true) ↔ Holds s n ws os → CheckMeets (pair ws os) r
+  checked good r t =
       record {
-        sound = λ e. shown-by (leb-true 1 b (both .0)) (leb-true b 256 (both .1)) (t .0 e);
-        complete = λ s. t .1 (sound-holds ws os (s .machine) (s .shows) b n (sym bucket) (sym counted ∙ lent));
+        sound = λ e. shown-by good (t .0 e);
+        complete = λ x. t .1 (sound-holds ws os (x .machine) (x .shows) s n (sym settings) (sym counted ∙ lent));
       }
 
 -- The first n places of 4,096.

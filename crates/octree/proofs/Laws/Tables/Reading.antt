@@ -10,10 +10,10 @@ use Rattle.colour.specs.Colour.{codeIn, Channel, Red, Green, Blue, colourBy}
 use Rattle.colour.specs.Octant.{bitWeight}
 use Rattle.colour.specs.declared.Sample.{Sample}
 use Rattle.colour.proofs.Laws.Channels.{code-by, same-codes}
-use Rattle.model.specs.Layout.{Tag, Code, current, Bucket, sampleHeader, sampleWidth}
+use Rattle.model.specs.Layout.{Tag, Code, current, sampleHeader, sampleWidth}
 use Rattle.model.specs.SampleSet.{SampleSet, Placed, placedFrom, placed, order}
-use Rattle.model.specs.Tables.{settingWord, sampleWord, sampleRowsOf, sampleWords}
-use Rattle.words.specs.Rows.{settingId, sampleId, place, sampleStart, sampleAt, sampleField, settingIn, countIn, sampleIn, samplesFrom}
+use Rattle.model.specs.Tables.{settingWord, headerWords, sampleWord, sampleRowsOf, sampleWords}
+use Rattle.words.specs.Rows.{settingId, sampleId, place, sampleStart, sampleAt, sampleField, settingIn, settingsIn, countIn, sampleIn, samplesFrom}
 
 -- The words of a sample's row.
 abbrev pub rowWords : ℕ → List Placed → ℕ → Sample → List ℕ
@@ -70,12 +70,12 @@ module _ (set : SampleSet) (rest : List ℕ) where
   unfolding countIn sampleWords
   count-read = refl
 
-  pub bucket-read : settingIn current (sampleWords current set ++ rest) Bucket ≡ set .settings .bucket
+  pub settings-read : settingsIn current (sampleWords current set ++ rest) ≡ set .settings
   unfolding settingIn sampleWords place settingId current settingWord
-  bucket-read = refl
+  settings-read = refl
 
   pub samples-read : samplesFrom current (sampleWords current set ++ rest) 0 (length (set .samples)) ≡ set .samples
   unfolding sampleWords placed sampleStart sampleHeader sampleWidth current
   samples-read =
       rows-read (length (set .samples)) (order set) (set .samples) 0
-      (length (set .samples) ∷ map (settingWord (set .settings)) (current .settings)) rest refl
+      (headerWords current (length (set .samples)) (set .settings)) rest refl

@@ -15,7 +15,7 @@ abbrev μ-loop : tie.MeasureT-loop
 μ-loop samples ordered after₀ i₀ after i = i
 
 cast-after : tie.Need-cast-after Inv-loop μ-loop
-cast-after c = let d = c .before .before in omega (arith, rows-few (length (d .args .samples .now)), d .pre)
+cast-after c = let d = c .before .before in omega (arith, rows-few (length (d .args .samples .now)), d .pre .few)
 
 loop-holds : tie.Need-loop-holds Inv-loop μ-loop
 loop-holds c = nexts-none _ _ _
@@ -26,7 +26,7 @@ sub-i c = omega arith
 mul-row-of : tie.Need-mul-row-of Inv-loop μ-loop
 mul-row-of c =
     let d = c .before .before .before .before in
-    omega (arith, c .before .loop .inv .few, rows-few (length (d .args .samples .now)), d .pre)
+    omega (arith, c .before .loop .inv .few, rows-few (length (d .args .samples .now)), d .pre .few)
 
 shared-slice-read-row-of : tie.Need-shared-slice-read-row-of Inv-loop μ-loop
 shared-slice-read-row-of c = omega (arith, c .before .before .loop .inv .few)
@@ -41,13 +41,13 @@ next-requires : tie.Need-next-requires Inv-loop μ-loop
 next-requires c κs =
     let l = c .before .before .before in
     let d = l .before .before .before in
-    omega (arith, c .row-of .ensures, row-below (l .loop .inv) (c .before .before .loop-test .taken) (d .pre .1), d .pre .0)
+    omega (arith, c .row-of .ensures, row-below (l .loop .inv) (c .before .before .loop-test .taken) (d .pre .once), d .pre .few)
 
 returns : tie.Need-returns Inv-loop μ-loop
 returns c =
     let r = c .before .before in
     let l = r .before .before .before in
-    nexts-differ (l .loop .inv) (l .before .before .before .pre .1) (r .before .before .loop-test .taken)
+    nexts-differ (l .loop .inv) (l .before .before .before .pre .once) (r .before .before .loop-test .taken)
     (λ e. c .if1 .taken (rw (c .before .next .ensures, r .row-of .ensures) e))
 
 loop-less : tie.Need-loop-less Inv-loop μ-loop
@@ -60,7 +60,7 @@ loop-again c =
     (sym (c .before .next .ensures) ∙ c .if1 .left) (λ r d. refl)
 
 returns-2 : tie.Need-returns-2 Inv-loop μ-loop
-returns-2 c = nexts-same (c .before .loop .inv) (c .before .before .before .before .pre .1) (c .loop-test .left)
+returns-2 c = nexts-same (c .before .loop .inv) (c .before .before .before .before .pre .once) (c .loop-test .left)
 
 pub all-are-spec : {M : Type 1} → statement M
 all-are-spec =

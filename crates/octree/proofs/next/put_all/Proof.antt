@@ -16,7 +16,7 @@ abbrev μ-loop : tie.MeasureT-loop
 μ-loop samples₀ ordered after₀ i₀ samples after i = i
 
 cast-after : tie.Need-cast-after Inv-loop μ-loop
-cast-after c = let d = c .before .before in omega (arith, rows-few (length (d .args .samples .now)), d .pre)
+cast-after c = let d = c .before .before in omega (arith, rows-few (length (d .args .samples .now)), d .pre .few)
 
 loop-holds : tie.Need-loop-holds Inv-loop μ-loop
 loop-holds c = put-none _ _
@@ -27,7 +27,7 @@ sub-i c = omega arith
 mul-row-of : tie.Need-mul-row-of Inv-loop μ-loop
 mul-row-of c =
     let d = c .before .before .before .before in
-    omega (arith, c .before .loop .inv .from .few, rows-few (length (d .args .samples .now)), d .pre)
+    omega (arith, c .before .loop .inv .from .few, rows-few (length (d .args .samples .now)), d .pre .few)
 
 shared-slice-read-row-of : tie.Need-shared-slice-read-row-of Inv-loop μ-loop
 shared-slice-read-row-of c = omega (arith, c .before .before .loop .inv .from .few)
@@ -46,8 +46,8 @@ put-next-requires c κs =
     omega (
       arith,
       r .row-of .ensures,
-      row-below (l .loop .inv .from) (r .before .before .loop-test .taken) (d .pre .1),
-      d .pre .0,
+      row-below (l .loop .inv .from) (r .before .before .loop-test .taken) (d .pre .once),
+      d .pre .few,
       ap (sampleRows current) (l .loop .inv .long),
     )
 
@@ -59,7 +59,7 @@ loop-again c =
     let r = c .before .before .before .before in
     let l = r .before .before .before in
     let d = l .before .before .before in
-    put-more (l .loop .inv) _ _ (r .before .before .loop-test .taken) (r .row-of .ensures) (d .pre .0) (d .pre .1)
+    put-more (l .loop .inv) _ _ (r .before .before .loop-test .taken) (r .row-of .ensures) (d .pre .few) (d .pre .once)
     (c .before .before .put-next .ensures)
 
 same-length : tie.Need-same-length Inv-loop μ-loop
@@ -68,7 +68,7 @@ same-length c = c .before .loop .inv .long
 returns : tie.Need-returns Inv-loop μ-loop
 returns c =
     let i = c .before .loop .inv in
-    (nexts-all (i .from) (c .loop-test .left) (c .before .before .before .before .pre .1), put-samples i)
+    (nexts-all (i .from) (c .loop-test .left) (c .before .before .before .before .pre .once), put-samples i)
 
 pub put-all-spec : {M : Type 1} → statement M
 put-all-spec =

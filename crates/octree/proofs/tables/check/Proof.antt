@@ -1,15 +1,15 @@
 -- `tables::check`: the header's tests, then whether the tables hold the set that they say.
 use Prim.Native.Nat.{ℕ, _≤_}
-use mathlib.Core.Bool.{false, _&&_}
-use mathlib.Core.Path.{_≡_, sym, _∙_, subst}
+use mathlib.Core.Path.{sym, ap, _∙_}
 use native.Mathlib.Omega.{arith}
 use borrow.Author.Needs.{needs}
 use borrow.Author.Tests.{not-true, not-false}
-use lib.Dec.{leb}
 use lib.ListN.{length}
+use Rattle.model.specs.SampleSet.{settingsGood}
 use Rattle.model.specs.Sound.{longEnough}
+use Rattle.model.proofs.Tables.Numbers.{current-numbers}
 use Rattle.words.proofs.Laws.Layout.Places.{rows-few}
-use Rattle.octree.proofs.Laws.Tables.Check.{too-short, bucket-out, rows-over, both-long, header-right, checked, places-first, places-few}
+use Rattle.octree.proofs.Laws.Tables.Check.{too-short, settings-out, rows-over, both-long, header-right, checked, places-first, places-few}
 use Rattle.octree.proofs.tables.check.Statement.{statement}
 use Rattle.octree.proofs.tables.check.Tie as tie
 
@@ -20,26 +20,25 @@ returns : tie.Need-returns
 unfolding longEnough
 returns c = too-short _ _ (sym (c .before .long-enough .ensures) ∙ not-true _ (c .if1 .taken))
 
-bucket-requires : tie.Need-bucket-requires
+settings-requires : tie.Need-settings-requires
 unfolding longEnough
-bucket-requires c κs =
+settings-requires c κs =
     let a = c .before .before .before .before .args in
     both-long (a .samples .now) (a .octants .now) (sym (c .before .long-enough .ensures) ∙ not-false _ (c .if1 .left)) .0
 
-bucket-fits-requires : tie.Need-bucket-fits-requires
-bucket-fits-requires c κs = search needs
+settings-fit-requires : tie.Need-settings-fit-requires
+settings-fit-requires c κs = search needs
 
 returns-2 : tie.Need-returns-2
 returns-2 c =
-    let b = c .before .before .bucket .ensures in
-    bucket-out _ _ (subst (λ (n : ℕ). (leb 1 n && leb n 256) ≡ false) b (sym (c .before .bucket-fits .ensures) ∙ not-true _ (c .if2 .taken)))
+    settings-out _ _ (ap settingsGood (sym (c .before .before .settings .ensures)) ∙ sym (c .before .settings-fit .ensures) ∙ not-true _ (c .if2 .taken))
 
 count-requires : tie.Need-count-requires
 unfolding longEnough
 count-requires c κs =
     let i = c .before .before .before in
     let a = i .before .before .before .before .args in
-    omega (arith, both-long (a .samples .now) (a .octants .now) (sym (i .before .long-enough .ensures) ∙ not-false _ (i .if1 .left)) .0)
+    omega (arith, current-numbers .sample-header, both-long (a .samples .now) (a .octants .now) (sym (i .before .long-enough .ensures) ∙ not-false _ (i .if1 .left)) .0)
 
 cast-n : tie.Need-cast-n
 cast-n c = omega arith
@@ -68,12 +67,12 @@ hold-requires c κs =
     let i = c .before .before in
     let r = i .before in
     let n = r .before .count in
-    let bucket = r .before .before .before .before in
-    let long = bucket .before in
+    let said = r .before .before .before .before in
+    let long = said .before in
     let s = long .before .before .before .before in
     let few = rows-few (length (s .args .samples .now)) in
     let small : n .result ≤ 4096 = omega (arith, few, r .sample-rows .ensures .0, i .if3 .left) in
-    header-right _ _ _ _ _ (sym (long .before .long-enough .ensures) ∙ not-false _ (long .if1 .left)) (n .ensures) (bucket .bucket .ensures)
+    header-right _ _ _ _ _ (sym (long .before .long-enough .ensures) ∙ not-false _ (long .if1 .left)) (n .ensures) (said .settings .ensures)
     (omega (arith, r .sample-rows .ensures .0, i .if3 .left)) (places-first _ small) _ (places-few (n .result) small)
 
 returns-4 : tie.Need-returns-4
@@ -84,13 +83,13 @@ returns-4 c =
     let r = i .before in
     let n = r .before .count in
     let range = r .before .before in
-    let bucket = range .before .before in
-    let long = bucket .before in
+    let said = range .before .before in
+    let long = said .before in
     let s = long .before .before .before .before in
     let few = rows-few (length (s .args .samples .now)) in
     let small : n .result ≤ 4096 = omega (arith, few, r .sample-rows .ensures .0, i .if3 .left) in
-    checked _ _ _ _ _ (sym (long .before .long-enough .ensures) ∙ not-false _ (long .if1 .left)) (n .ensures) (bucket .bucket .ensures)
-    (omega (arith, r .sample-rows .ensures .0, i .if3 .left)) (places-first _ small) (sym (range .before .bucket-fits .ensures) ∙ not-false _ (range .if2 .left))
+    checked _ _ _ _ _ (sym (long .before .long-enough .ensures) ∙ not-false _ (long .if1 .left)) (n .ensures) (said .settings .ensures)
+    (omega (arith, r .sample-rows .ensures .0, i .if3 .left)) (places-first _ small) (sym (range .before .settings-fit .ensures) ∙ not-false _ (range .if2 .left))
     (h .hold .result) (h .hold .ensures)
 
 pub check-spec : {M : Type 1} → statement M
@@ -99,8 +98,8 @@ check-spec =
     (tie.spec
     long-enough-requires
     returns
-    bucket-requires
-    bucket-fits-requires
+    settings-requires
+    settings-fit-requires
     returns-2
     count-requires
     cast-n

@@ -34,7 +34,7 @@ returns-2 c =
     let f = c .before .before .before in
     let a = f .before .before .before .before .before .before .before in
     let s = a .before .before .before .before .before .before .before in
-    out-of-range _ _ _ (s .args .octants .now) _ (a .all-apart .kept .1 .0) (f .fill .result) (c .if2 .taken) (f .fill .ensures .1 .1)
+    out-of-range _ _ _ (s .args .octants .now) _ (a .all-apart .kept .1 .0) (f .fill .result) (c .if2 .taken) (f .fill .ensures .complete)
 
 same-tables-requires : tie.Need-same-tables-requires
 same-tables-requires c κs =
@@ -42,7 +42,7 @@ same-tables-requires c κs =
     let f = i .before .before .before in
     let a = f .before .before .before .before .before .before .before in
     let s = a .before .before .before .before .before .before .before in
-    let filled = f .fill .ensures .1 .0 (not-false _ (i .if2 .left)) in
+    let filled = f .fill .ensures .entries (not-false _ (i .if2 .left)) in
     now-listed _ _ _ _ _ (a .all-apart .kept .1 .0) (f .fill .last .1 .0) (f .fill .kept .1 .0) _ _ (s .pre) (a .all-apart .kept .1 .1 .0) filled
 
 same-length-5 : tie.Need-same-length-5
@@ -59,7 +59,7 @@ returns-3 c =
     let j = f .before .before in
     let a = j .before .before .before .before .before in
     let apart = a .all-apart .ensures .0 (not-false _ (j .if1 .left)) in
-    let in-range = f .fill .ensures .0 (not-false _ (i .if2 .left)) in
+    let in-range = f .fill .ensures .in-range (not-false _ (i .if2 .left)) in
     set-tells _ _ _ _ _ (a .all-apart .kept .1 .0) (f .fill .last .1 .0) (f .fill .kept .1 .0) apart in-range (t .same-tables .result)
     (t .same-tables .ensures)
 

@@ -12,6 +12,9 @@ sample-rows-requires c κs = search needs
 returns : tie.Need-returns
 returns c = lacks-row _ _ _ _ _ (omega (arith, c .before .sample-rows .ensures .0, c .if1 .taken))
 
+cast-order : tie.Need-cast-order
+cast-order c = search needs
+
 order-requires : tie.Need-order-requires
 order-requires c κs = search needs
 
@@ -31,7 +34,7 @@ returns-2 : tie.Need-returns-2
 unfolding depths
 returns-2 c =
     let d = c .before .before .before .before .before .before in
-    let i = d .before .before .before in
+    let i = d .before .before .before .before in
     lacks-octants _ _ _ _ _ (omega (arith, i .before .sample-rows .ensures .0, i .if1 .left))
     (omega (arith, c .if2 .taken, c .before .octant-rows .ensures, d .order .ensures .1))
 
@@ -45,7 +48,7 @@ returns-3 : tie.Need-returns-3
 unfolding depths
 returns-3 c =
     let d = c .before .before .before .before .before .before in
-    let i = d .before .before .before in
+    let i = d .before .before .before .before in
     judged _ _ _ _ _ _ (omega (arith, i .before .sample-rows .ensures .0, i .if1 .left)) (omega (arith, c .if2 .left, c .before .octant-rows .ensures))
     (d .order .ensures .1) (d .order .ensures .0)
 
@@ -55,6 +58,7 @@ judge-spec =
     (tie.spec
     sample-rows-requires
     returns
+    cast-order
     order-requires
     octant-rows-requires
     cast-if2

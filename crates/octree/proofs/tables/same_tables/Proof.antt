@@ -24,11 +24,14 @@ same-length c = search needs
 same-length-2 : tie.Need-same-length-2
 same-length-2 c = search needs
 
+enum-told : tie.Need-enum-told
+enum-told c = search needs
+
 returns : tie.Need-returns
 returns c =
-    let j = c .before .before .before .before .before in
+    let j = c .before .before .before .before .before .before in
     let s = j .before .before .before .before .before .before .before in
-    not-fitting (s .pre) (j .judge .ensures) (unfit (j .judge .result) (c .match .keys2))
+    not-fitting (s .pre) (j .judge .ensures) (unfit (j .judge .result) _ (c .enum-told .given .1))
 
 samples-are-requires : tie.Need-samples-are-requires
 samples-are-requires c κs =
@@ -38,7 +41,7 @@ samples-are-requires c κs =
     let h = s .pre .headed in
     let few = judged-few (s .pre) (j .judge .ensures) (n .count .given .1) (j .judge .kept .0) in
     let once = judged-once (s .pre) (j .judge .ensures) (n .count .given .1) (j .judge .kept .0) in
-    (h .sample-words, few, once, h .counted ∙ sym (j .judge .kept .0))
+    (h .sample-words, record { few = few; once = once }, h .counted ∙ sym (j .judge .kept .0))
 
 same-length-3 : tie.Need-same-length-3
 same-length-3 c = search needs
@@ -88,6 +91,7 @@ same-tables-spec =
     (tie.spec
     judge-requires
     enum-known-count
+    enum-told
     same-length
     same-length-2
     returns

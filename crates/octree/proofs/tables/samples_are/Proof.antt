@@ -15,27 +15,27 @@ returns : tie.Need-returns
 returns c =
     let a = c .before in
     let p = a .before .before .before .pre in
-    nexts-other _ _ _ (p .0) (p .1) (p .3) (a .all-are .result) (c .if1 .taken) (a .all-are .ensures)
+    nexts-other _ _ _ (p .0) (p .1 .few) (p .2) (a .all-are .result) (c .if1 .taken) (a .all-are .ensures)
 
 sample-start-requires : tie.Need-sample-start-requires
 sample-start-requires c κs =
     let p = c .before .before .before .before .pre in
-    samples-end _ _ _ (p .0) (p .1) refl .few
+    samples-end _ _ _ (p .0) (p .1 .few) refl .few
 
 mul-are-zero : tie.Need-mul-are-zero
 mul-are-zero c =
     let p = c .before .before .before .before .before .pre in
-    omega (arith, samples-end _ _ _ (p .0) (p .1) (c .sample-start .ensures) .small)
+    omega (arith, samples-end _ _ _ (p .0) (p .1 .few) (c .sample-start .ensures) .small)
 
 sub-are-zero : tie.Need-sub-are-zero
 sub-are-zero c =
     let p = c .before .before .before .before .before .pre in
-    samples-end _ _ _ (p .0) (p .1) (c .sample-start .ensures) .within
+    samples-end _ _ _ (p .0) (p .1 .few) (c .sample-start .ensures) .within
 
 part-are-zero-start : tie.Need-part-are-zero-start
 part-are-zero-start c =
     let p = c .before .before .before .before .before .pre in
-    samples-end _ _ _ (p .0) (p .1) (c .sample-start .ensures) .within
+    samples-end _ _ _ (p .0) (p .1 .few) (c .sample-start .ensures) .within
 
 part-are-zero-end : tie.Need-part-are-zero-end
 part-are-zero-end c = omega arith
@@ -49,7 +49,7 @@ returns-2 c =
     let i = f .before in
     let a = i .before in
     let p = a .before .before .before .pre in
-    rest-tells _ _ _ (p .0) (p .1) (p .3) _ (f .sample-start .ensures) (a .all-are .ensures .0 (not-false _ (i .if1 .left))) (c .are-zero .result)
+    rest-tells _ _ _ (p .0) (p .1 .few) (p .2) _ (f .sample-start .ensures) (a .all-are .ensures .0 (not-false _ (i .if1 .left))) (c .are-zero .result)
     (c .are-zero .ensures)
 
 pub samples-are-spec : {M : Type 1} → statement M

@@ -1,13 +1,13 @@
 -- `tables::write`: both tables of the samples in the first rows.
 use borrow.Author.Needs.{needs}
-use Rattle.octree.proofs.Laws.Tables.Judged.{written-once, written-few, written-ordered, written-fits, written}
+use Rattle.octree.proofs.Laws.Tables.Judged.{written-once, written-few, written-ordered, written-fits, tables-written}
 use Rattle.octree.proofs.tables.write.Statement.{statement}
 use Rattle.octree.proofs.tables.write.Tie as tie
 
 write-samples-requires : tie.Need-write-samples-requires
 write-samples-requires c κs =
     let s = c .before .before .before .before in
-    (s .pre .sample-words, s .pre .few, written-once (s .args .octants .now) (s .pre))
+    (s .pre .sample-words, record { few = s .pre .few; once = written-once (s .args .octants .now) (s .pre) })
 
 write-octants-requires : tie.Need-write-octants-requires
 write-octants-requires c κs =
@@ -26,7 +26,7 @@ returns c =
     let o = c .before .before in
     let w = o .before .before .before .before in
     let s = w .before .before .before .before .before in
-    written (s .args .octants .now) (s .pre) _ _ (w .write-samples .ensures) (o .write-octants .ensures)
+    tables-written (s .args .octants .now) (s .pre) _ _ (w .write-samples .ensures) (o .write-octants .ensures)
 
 pub write-spec : {M : Type 1} → statement M
 write-spec =

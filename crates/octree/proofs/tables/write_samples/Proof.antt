@@ -14,7 +14,7 @@ put-all-requires c κs = search needs
 cast-put-header : tie.Need-cast-put-header
 cast-put-header c =
     let s = c .before .before .before .before .before .before .before in
-    omega (arith, samples-end (length (s .args .samples .now)) _ _ (s .pre .0) (s .pre .1) refl .few)
+    omega (arith, samples-end (length (s .args .samples .now)) _ _ (s .pre .0) (s .pre .1 .few) refl .few)
 
 put-header-requires : tie.Need-put-header-requires
 put-header-requires c κs = search needs
@@ -22,19 +22,19 @@ put-header-requires c κs = search needs
 sample-start-requires : tie.Need-sample-start-requires
 sample-start-requires c κs =
     let s = c .before .before .before .before .before .before .before .before .before .before in
-    samples-end (length (s .args .samples .now)) _ _ (s .pre .0) (s .pre .1) refl .few
+    samples-end (length (s .args .samples .now)) _ _ (s .pre .0) (s .pre .1 .few) refl .few
 
 mul-clear : tie.Need-mul-clear
 mul-clear c =
     let s = c .before .before .before .before .before .before .before .before .before .before .before in
-    omega (arith, samples-end (length (s .args .samples .now)) _ _ (s .pre .0) (s .pre .1) (c .sample-start .ensures) .small)
+    omega (arith, samples-end (length (s .args .samples .now)) _ _ (s .pre .0) (s .pre .1 .few) (c .sample-start .ensures) .small)
 
 sub-clear : tie.Need-sub-clear
 sub-clear c =
     let h = c .before .before .before in
     let a = h .before .before .before .before in
     let s = a .before .before .before .before in
-    let end = samples-end (length (s .args .samples .now)) _ _ (s .pre .0) (s .pre .1) (c .sample-start .ensures) in
+    let end = samples-end (length (s .args .samples .now)) _ _ (s .pre .0) (s .pre .1 .few) (c .sample-start .ensures) in
     omega (arith, end .within, h .put-header .kept .0, a .put-all .kept .0)
 
 part-clear-start : tie.Need-part-clear-start
@@ -42,7 +42,7 @@ part-clear-start c =
     let h = c .before .before .before in
     let a = h .before .before .before .before in
     let s = a .before .before .before .before in
-    let end = samples-end (length (s .args .samples .now)) _ _ (s .pre .0) (s .pre .1) (c .sample-start .ensures) in
+    let end = samples-end (length (s .args .samples .now)) _ _ (s .pre .0) (s .pre .1 .few) (c .sample-start .ensures) in
     omega (arith, end .within, h .put-header .kept .0, a .put-all .kept .0)
 
 part-clear-end : tie.Need-part-clear-end
@@ -61,7 +61,7 @@ returns c =
     let h = f .before .before .before in
     let a = h .before .before .before .before in
     let s = a .before .before .before .before in
-    samples-written (s .args .samples .now) (a .put-all .last .0) _ _ _ (s .pre .0) (s .pre .1) (a .put-all .kept .0) (a .put-all .ensures .0)
+    samples-written (s .args .samples .now) (a .put-all .last .0) _ _ _ (s .pre .0) (s .pre .1 .few) (a .put-all .kept .0) (a .put-all .ensures .0)
     (a .put-all .ensures .1) (h .put-header .ensures) (f .sample-start .ensures) (z .clear .ensures)
 
 pub write-samples-spec : {M : Type 1} → statement M

@@ -14,7 +14,7 @@ use Rattle.colour.proofs.Laws.Table.{valuesFrom, rule}
 use Rattle.model.specs.Layout.{SampleField, Tag, Code, Next, OctantField, First, Last, Count, Child, current, Bucket, sampleHeader, sampleWidth, octantHeader, octantWidth, sampleRows, octantRows}
 use Rattle.model.proofs.Tables.Numbers.{current-numbers}
 use Rattle.model.proofs.Tables.Size.{rows-within}
-use Rattle.words.specs.Rows.{settingId, sampleId, octantId, place, sampleStart, sampleAt, sampleField, settingIn, octantStart, octantAt, octantField}
+use Rattle.words.specs.Rows.{settingId, sampleId, octantId, place, sampleStart, sampleAt, sampleField, settingIn, settingsIn, octantStart, octantAt, octantField}
 
 -- A sample row starts after the header and the rows before it, and an octant row too.
 pub sample-start : (i : ℕ) → sampleStart current i ≡ 2 + 5 * i
@@ -109,9 +109,9 @@ unfolding octantAt
 octant-at f i h = rw (octant-place-is f h)
 
 -- The bucket size is word 1.
-pub bucket-in : (ws : List ℕ) → settingIn current ws Bucket ≡ getD ws 1 0
+pub settings-in : (ws : List ℕ) → settingsIn current ws ≡ record { bucket = getD ws 1 0 }
 unfolding settingIn place settingId current
-bucket-in ws = refl
+settings-in ws = refl
 
 -- Sample rows that a table has lie within it, and octant rows.
 pub samples-room : (len n : ℕ) → sampleHeader current ≤ len → n ≤ sampleRows current len → sampleStart current n ≤ len
@@ -183,10 +183,10 @@ pub record SamplesEnd (len n at : ℕ) : Type 0 where
   pub small : at ≤ 20482
   pub within : at ≤ len
 
-pub samples-end : (len n at : ℕ) → 2 ≤ len → n ≤ sampleRows current len → at ≡ sampleStart current n → SamplesEnd len n at
+pub samples-end : (len n at : ℕ) → sampleHeader current ≤ len → n ≤ sampleRows current len → at ≡ sampleStart current n → SamplesEnd len n at
 samples-end len n at h k e =
     record {
       few = omega (arith, current-numbers .sample-rows len);
       small = omega (arith, current-numbers .sample-rows len, sample-start n);
-      within = omega (arith, samples-room len n (omega (arith, current-numbers .sample-header)) k);
+      within = omega (arith, samples-room len n h k);
     }

@@ -1,6 +1,7 @@
 -- `layout::sample_budget`: the lesser of what is said and what is there.
 use native.Mathlib.Omega.{arith}
 use borrow.Author.Needs.{needs}
+use Rattle.model.specs.Layout.{current, sampleHeader}
 use Rattle.words.specs.Rows.{sampleBudget}
 use Rattle.words.proofs.layout.sample_budget.Statement.{statement}
 use Rattle.words.proofs.layout.sample_budget.Tie as tie
@@ -9,7 +10,8 @@ sample-rows-requires : tie.Need-sample-rows-requires
 sample-rows-requires c κs = search needs
 
 count-requires : tie.Need-count-requires
-count-requires c κs = search needs
+unfolding sampleHeader current
+count-requires c κs = omega arith
 
 lesser-requires : tie.Need-lesser-requires
 lesser-requires c κs = search needs
