@@ -13,8 +13,8 @@ use Rattle.colour.specs.Colour.{black, wrapped}
 use Rattle.colour.specs.Octant.{depths, children, childLow}
 use Rattle.colour.specs.Region.{holds, overlaps, inside}
 use Rattle.model.specs.Lists.{keep}
-use Rattle.model.specs.Layout.{Bucket, Tag, Count, Child, current}
-use Rattle.words.specs.Rows.{settingIn, sampleField, sampleIn, octantField, octantLimit}
+use Rattle.model.specs.Layout.{Tag, Count, Child, current}
+use Rattle.words.specs.Rows.{settingsIn, sampleField, sampleIn, octantField, octantLimit}
 use Rattle.traversal.specs.Own.{ownRows, endsAt}
 
 -- What a pass has counted: octants entered, samples measured, and all samples visited, measured or taken whole. `next` is the least octant row
@@ -49,8 +49,8 @@ visiting whole n t =
     record { entered = t .entered; measured = measuredAfter whole (t .measured) n; next = t .next; visited = t .visited + n }
 
 -- The tally where the octant in a row is entered.
-unfoldable pub entering : ℕ → Tally → Tally
-entering row t = record { entered = suc (t .entered); measured = t .measured; next = suc row; visited = t .visited }
+unfoldable pub tallyEntering : ℕ → Tally → Tally
+tallyEntering row t = record { entered = suc (t .entered); measured = t .measured; next = suc row; visited = t .visited }
 
 -- An octant's own samples: each is listed where the octant is taken whole, and else measured.
 unfoldable pub ownSamples : List ℕ → List ℕ → Region → Bool → ℕ → Tally → Visit
@@ -71,9 +71,9 @@ unfoldable pub andThen : Visit → (Tally → Visit) → Visit
 andThen v f = record { tags = v .tags ++ f (v .after) .tags; after = f (v .after) .after }
 
 -- Visits f 0, .., f (n - 1), one after the other.
-unfoldable pub inTurn : (ℕ → Tally → Visit) → ℕ → Tally → Visit
-inTurn f zero t = nothing t
-inTurn f (suc n) t = andThen (inTurn f n t) (f n)
+unfoldable pub visitEach : (ℕ → Tally → Visit) → ℕ → Tally → Visit
+visitEach f zero t = nothing t
+visitEach f (suc n) t = andThen (visitEach f n t) (f n)
 
 -- Child k, of side s, of the octant in a row at low: it is visited where it is entered.
 unfoldable pub childVisit : List ℕ → Region → (ℕ → Colour → Tally → Visit) → ℕ → ℕ → Colour → ℕ → Tally → Visit
@@ -85,15 +85,15 @@ childVisit os R below s row low k t =
 
 -- Whether the octant in a row, of side 2 ^ j at low, is gone through sample by sample.
 unfoldable pub ends : List ℕ → List ℕ → Region → ℕ → ℕ → Colour → Bool
-ends ws os R j row low = endsAt j (inside R (2 ^ j) low) (octantField current os row Count) (settingIn current ws Bucket)
+ends ws os R j row low = endsAt j (inside R (2 ^ j) low) (octantField current os row Count) (settingsIn current ws .bucket)
 
 -- The octant in a row, of side 2 ^ j at low, is entered: its own samples are visited, or its children in turn.
 unfoldable pub visitOf : List ℕ → List ℕ → Region → ℕ → ℕ → Colour → Tally → Visit
-visitOf ws os R zero row low t = ownSamples ws os R (inside R (2 ^ zero) low) row (entering row t)
+visitOf ws os R zero row low t = ownSamples ws os R (inside R (2 ^ zero) low) row (tallyEntering row t)
 visitOf ws os R (suc j) row low t =
     elim (ends ws os R (suc j) row low) [
-      | true ↦ ownSamples ws os R (inside R (2 ^ suc j) low) row (entering row t)
-      | false ↦ inTurn (childVisit os R (visitOf ws os R j) (2 ^ j) row low) children (entering row t)
+      | true ↦ ownSamples ws os R (inside R (2 ^ suc j) low) row (tallyEntering row t)
+      | false ↦ visitEach (childVisit os R (visitOf ws os R j) (2 ^ j) row low) children (tallyEntering row t)
     ]
 
 -- Before a pass.

@@ -6,7 +6,7 @@ use mathlib.Core.Path.{_≡_}
 use lib.ListN.{length, getD}
 use lib.Seq.{sets}
 use Rattle.colour.specs.declared.Region.{Region}
-use Rattle.model.specs.Layout.{current}
+use Rattle.model.specs.Layout.{current, sampleHeader}
 use Rattle.words.specs.Rows.{octantLimit, sampleBudget}
 use Rattle.listing.specs.declared.follow.Run.{Run}
 use Rattle.traversal.specs.Own.{rowsFrom}
@@ -24,7 +24,7 @@ unfoldable pub tallyIn : List ℕ → Tally
 tallyIn ws = record { entered = getD ws 1 0; measured = getD ws 2 0; next = getD ws 3 0; visited = getD ws 4 0 }
 
 -- A tally within a budget of samples and a limit of octants. Rows that are entered rise, so there are no more of them than rows passed.
-pub record Sane (budget limit : ℕ) (t : Tally) : Type 0 where
+pub record TallyWithin (budget limit : ℕ) (t : Tally) : Type 0 where
   pub entered : t .entered ≤ t .next
   pub next : t .next ≤ limit
   pub measured : t .measured ≤ t .visited
@@ -32,11 +32,11 @@ pub record Sane (budget limit : ℕ) (t : Tally) : Type 0 where
 
 -- What is known wherever a pass stands: both headers are there, and the tally's words say a tally within the tables' bounds.
 pub record Counting (ws os words : List ℕ) : Type 0 where
-  pub samples : 2 ≤ length ws
+  pub samples : sampleHeader current ≤ length ws
   pub octants : 1 ≤ length os
   pub small : octantLimit current os < 4294967296
   pub five : length words ≡ 5
-  pub sane : Sane (sampleBudget current ws) (octantLimit current os) (tallyIn words)
+  pub sane : TallyWithin (sampleBudget current ws) (octantLimit current os) (tallyIn words)
   pub listed : listedIn words ≤ tallyIn words .visited
 
 -- A run of samples was gone through: its tags stand in the listing from a start on, as far as it reaches.

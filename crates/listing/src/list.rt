@@ -21,7 +21,7 @@ pub enum Listed {
 
 // How many a pass lists. It writes on a word of its own, and so only counts.
 fn how_many(samples: &[u32], octants: &[u32], region: Region) -> usize
-    requires { ⌜ (Fair region) × ((2 ≤ length (now samples)) × (1 ≤ length (now octants))) ⌝ }
+    requires { ⌜ (Fair region) × ((sampleHeader current ≤ length (now samples)) × (1 ≤ length (now octants))) ⌝ }
     ensures { λ r. ⌜ r ≡ length (passOf (now (samples .entry)) (now (octants .entry)) region .tags) ⌝ }
 {
     let mut tally = none();
@@ -32,7 +32,7 @@ fn how_many(samples: &[u32], octants: &[u32], region: Region) -> usize
 
 // A pass that writes.
 fn write(samples: &[u32], octants: &[u32], region: Region, listing: &mut [u32]) -> Listed
-    requires { ⌜ (Fair region) × ((2 ≤ length (now samples)) × (1 ≤ length (now octants))) ⌝ }
+    requires { ⌜ (Fair region) × ((sampleHeader current ≤ length (now samples)) × (1 ≤ length (now octants))) ⌝ }
     requires { ⌜ length (passOf (now samples) (now octants) region .tags) ≤ length (now listing) ⌝ }
     ensures { λ r. ⌜ listedAnswer r (now (listing .exit)) ≡ passAnswer (passOf (now (samples .entry)) (now (octants .entry)) region) (now (listing .entry)) ⌝ }
 {
@@ -44,7 +44,7 @@ fn write(samples: &[u32], octants: &[u32], region: Region, listing: &mut [u32]) 
 // Question 13, and the listing. A listing as long as the samples that a pass may visit holds all, so that one pass does; else it is counted
 // first, and nothing is written where it is too short.
 pub fn list(samples: &[u32], octants: &[u32], region: Region, listing: &mut [u32]) -> Listed
-    requires { ⌜ (Fair region) × ((2 ≤ length (now samples)) × (1 ≤ length (now octants))) ⌝ }
+    requires { ⌜ (Fair region) × ((sampleHeader current ≤ length (now samples)) × (1 ≤ length (now octants))) ⌝ }
     ensures { λ r. ⌜ listedAnswer r (now (listing .exit)) ≡ passAnswer (passOf (now (samples .entry)) (now (octants .entry)) region) (now (listing .entry)) ⌝ }
 {
     let room = listing.len();

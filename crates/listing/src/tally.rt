@@ -5,7 +5,7 @@ ghost use mathlib.Core.Bool.{_&&_};
 ghost use mathlib.Core.Path.{_≡_};
 ghost use lib.Dec.{leb, ltb};
 ghost use lib.ListN.{length};
-ghost use Rattle.listing.specs.Pass.{measuredAfter, entering, visiting, noTally};
+ghost use Rattle.listing.specs.Pass.{measuredAfter, tallyEntering, visiting, noTally};
 ghost use Rattle.listing.specs.Steps.{tallyWords, listedIn, tallyIn};
 
 // The places of the counts: tags listed, octants entered, samples measured, the least octant row that may be entered, samples visited.
@@ -61,7 +61,7 @@ pub fn may_enter(tally: &[u32; 5], row: u32, limit: u32) -> bool
 // The octant in a row is entered.
 pub fn enter(tally: &mut [u32; 5], row: u32)
     requires { ⌜ (length (now tally) ≡ 5) × ((tallyIn (now tally) .entered ≤ row) × (row < 4294967295)) ⌝ }
-    ensures { λ _. ⌜ now (tally .exit) ≡ tallyWords (listedIn (now (tally .entry))) (entering row (tallyIn (now (tally .entry)))) ⌝ }
+    ensures { λ _. ⌜ now (tally .exit) ≡ tallyWords (listedIn (now (tally .entry))) (tallyEntering row (tallyIn (now (tally .entry)))) ⌝ }
 {
     tally[ENTERED] = tally[ENTERED] + 1;
     tally[NEXT] = row + 1;

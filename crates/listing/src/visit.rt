@@ -26,10 +26,10 @@ ghost use mathlib.Core.Path.{_≡_};
 ghost use lib.ListN.{length};
 ghost use Rattle.colour.specs.Octant.{Within};
 ghost use Rattle.colour.specs.Region.{Fair};
-ghost use Rattle.model.specs.Layout.{current};
+ghost use Rattle.model.specs.Layout.{current, sampleHeader};
 ghost use Rattle.words.specs.Rows.{octantLimit, sampleBudget};
 ghost use Rattle.listing.specs.Pass.{noTally, ownSamples, visitOf, passOf};
-ghost use Rattle.listing.specs.Steps.{tallyWords, tallyIn, Sane, Counting, Visited};
+ghost use Rattle.listing.specs.Steps.{tallyWords, tallyIn, TallyWithin, Counting, Visited};
 
 // An entered octant's own samples.
 fn own_samples(
@@ -112,10 +112,10 @@ pub fn pass(
     tally: &mut [u32; 5],
 )
     requires { ⌜ Fair region ⌝ }
-    requires { ⌜ (2 ≤ length (now samples)) × (1 ≤ length (now octants)) ⌝ }
+    requires { ⌜ (sampleHeader current ≤ length (now samples)) × (1 ≤ length (now octants)) ⌝ }
     requires { ⌜ now tally ≡ tallyWords 0 noTally ⌝ }
     ensures visited { λ _. ⌜ Visited (passOf (now (samples .entry)) (now (octants .entry)) region) (now (tally .entry)) (now (listing .entry)) (now (tally .exit)) (now (listing .exit)) ⌝ }
-    ensures bounded { λ _. ⌜ Sane (sampleBudget current (now (samples .entry))) (octantLimit current (now (octants .entry))) (tallyIn (now (tally .exit))) ⌝ }
+    ensures bounded { λ _. ⌜ TallyWithin (sampleBudget current (now (samples .entry))) (octantLimit current (now (octants .entry))) (tallyIn (now (tally .exit))) ⌝ }
 {
     let limit = octant_limit(octants);
     let all = root();

@@ -18,11 +18,11 @@ taken best d row tag =
     elim (closer best d row) [ true ↦ record { distance = d; octant = row; tag = tag } | false ↦ best ]
 
 -- Before a search: nothing is found, and only what is closer than the limit, r², comes before that.
-unfoldable pub none : ℕ → Best
-none limit = record { distance = limit; octant = 0; tag = 0 }
+unfoldable pub unfound : ℕ → Best
+unfound limit = record { distance = limit; octant = 0; tag = 0 }
 
--- The answer of a search that began with a limit and came to this best: where it is below the limit its tag and d², and else none with both 0. `lent`
+-- The answer of a search that began with a limit and came to this best: where it is below the limit its tag and d², and else none with both 0. `left`
 -- is the listing as it is left.
 unfoldable pub bestAnswer : ℕ → Best → List ℕ → Answer
-bestAnswer limit best lent =
-    elim (ltb (best .distance) limit) [ true ↦ nearestAnswer 0 true (best .tag) (best .distance) lent | false ↦ nearestAnswer 0 false 0 0 lent ]
+bestAnswer limit best left =
+    elim (ltb (best .distance) limit) [ true ↦ nearestAnswer 0 true (best .tag) (best .distance) left | false ↦ nearestAnswer 0 false 0 0 left ]

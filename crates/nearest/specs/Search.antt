@@ -12,12 +12,12 @@ use Rattle.colour.specs.Colour.{black, distance, wrapped}
 use Rattle.colour.specs.Octant.{depths, children, childLow}
 use Rattle.colour.specs.Region.{closest}
 use Rattle.colour.specs.Nearby.{closestChild}
-use Rattle.model.specs.Layout.{Bucket, Count, Child, current}
-use Rattle.words.specs.Rows.{settingIn, sampleIn, octantField, octantLimit}
+use Rattle.model.specs.Layout.{Count, Child, current}
+use Rattle.words.specs.Rows.{settingsIn, sampleIn, octantField, octantLimit}
 use Rattle.traversal.specs.Own.{ownRows, endsAt}
 use Rattle.nearest.specs.declared.best.Best.{Best}
 use Rattle.nearest.specs.declared.search.Search.{Search}
-use Rattle.nearest.specs.Best.{closer, taken, none}
+use Rattle.nearest.specs.Best.{closer, taken, unfound}
 use Rattle.nearest.specs.Turns.{inTurn}
 
 -- The best, once the sample in row i is measured, in the octant in row `at`. Words that are no codes are wrapped.
@@ -31,8 +31,8 @@ measureRows ws c at best [] = best
 measureRows ws c at best (i ∷ rows) = measureRows ws c at (measureRow ws c at best i) rows
 
 -- One octant more is entered.
-unfoldable pub entering : Search → Search
-entering s = record { best = s .best; entered = suc (s .entered); visited = s .visited }
+unfoldable pub searchEntering : Search → Search
+searchEntering s = record { best = s .best; entered = suc (s .entered); visited = s .visited }
 
 -- The own samples of the octant in a row are measured.
 unfoldable pub ownSearch : List ℕ → List ℕ → Colour → ℕ → Search → Search
@@ -62,16 +62,16 @@ turnChild c s low m = bitXor (closestChild c s low) m
 
 -- The octant in a row, of side 2 ^ j at low, is entered: its own samples are measured, or its children are searched.
 unfoldable pub searchOf : List ℕ → List ℕ → Colour → ℕ → ℕ → Colour → Search → Search
-searchOf ws os c zero row low s = ownSearch ws os c row (entering s)
+searchOf ws os c zero row low s = ownSearch ws os c row (searchEntering s)
 searchOf ws os c (suc j) row low s =
-    elim (endsAt (suc j) false (octantField current os row Count) (settingIn current ws Bucket)) [
-      | true ↦ ownSearch ws os c row (entering s)
-      | false ↦ inTurn (λ m. childSearch os c (searchOf ws os c j) (2 ^ j) row low (turnChild c (2 ^ j) low m)) children (entering s)
+    elim (endsAt (suc j) false (octantField current os row Count) (settingsIn current ws .bucket)) [
+      | true ↦ ownSearch ws os c row (searchEntering s)
+      | false ↦ inTurn (λ m. childSearch os c (searchOf ws os c j) (2 ^ j) row low (turnChild c (2 ^ j) low m)) children (searchEntering s)
     ]
 
 -- Before a search, with radius r.
 unfoldable pub noSearch : ℕ → Search
-noSearch r = record { best = none (r * r); entered = 0; visited = 0 }
+noSearch r = record { best = unfound (r * r); entered = 0; visited = 0 }
 
 -- The whole search: the root in row 0 is entered where it is there.
 unfoldable pub searchAll : List ℕ → List ℕ → Colour → ℕ → Search

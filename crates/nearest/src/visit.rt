@@ -24,10 +24,10 @@ ghost use lib.ListN.{length};
 ghost use Rattle.colour.specs.Colour.{InRange};
 ghost use Rattle.colour.specs.Octant.{Within};
 ghost use Rattle.colour.specs.Nearby.{closestBy, SmallGaps};
-ghost use Rattle.model.specs.Layout.{current};
+ghost use Rattle.model.specs.Layout.{current, sampleHeader};
 ghost use Rattle.words.specs.Rows.{octantLimit};
 ghost use Rattle.nearest.specs.Best.{closer};
-ghost use Rattle.nearest.specs.Search.{entering, searchOf, noSearch, searchAll};
+ghost use Rattle.nearest.specs.Search.{searchEntering, searchOf, noSearch, searchAll};
 ghost use Rattle.nearest.specs.Steps.{Ready};
 
 // How many children an octant of side over 1 has.
@@ -36,7 +36,7 @@ const CHILDREN: u32 = 8;
 // One octant more is entered.
 fn enter(search: Search) -> Search
     requires { ⌜ search .entered < 4294967295 ⌝ }
-    ensures { λ r. ⌜ r ≡ entering search ⌝ }
+    ensures { λ r. ⌜ r ≡ searchEntering search ⌝ }
 {
     let best = search.best;
     Search {
@@ -50,7 +50,8 @@ fn enter(search: Search) -> Search
 // is worked out last: most octants have few children.
 fn reaches(search: Search, row: u32, limit: u32, gaps: Gaps, k: u32) -> bool
     requires { ⌜ SmallGaps gaps ⌝ }
-    ensures { λ r. ⌜ r ≡ ((ltb 0 row && ltb row limit) && (ltb (search .entered) limit && closer (search .best) (closestBy gaps k) row)) ⌝ }
+    ensures { λ r. ⌜ r
+        ≡ ((ltb 0 row && ltb row limit) && (ltb (search .entered) limit && closer (search .best) (closestBy gaps k) row)) ⌝ }
 {
     if ((0 < row) & (row < limit)) & (search.entered < limit) {
         let best = search.best;
@@ -113,7 +114,7 @@ fn start(radius: u32) -> Search
 // Nearest over codes: the root is entered where it is there.
 pub fn nearest(samples: &[u32], octants: &[u32], centre: Colour, radius: u32) -> Best
     requires { ⌜ InRange centre ⌝ }
-    requires { ⌜ (2 ≤ length (now samples)) × (1 ≤ length (now octants)) ⌝ }
+    requires { ⌜ (sampleHeader current ≤ length (now samples)) × (1 ≤ length (now octants)) ⌝ }
     ensures { λ r. ⌜ r ≡ searchAll (now (samples .entry)) (now (octants .entry)) centre radius .best ⌝ }
 {
     let none = start(radius);

@@ -1,12 +1,12 @@
 // The octant in a row: whether its samples are gone through one by one, and how many of them at most.
-use words::layout::bucket as bucket_of;
 use words::layout::octant_count;
 use words::layout::sample_budget;
+use words::layout::settings as settings_of;
 ghost use Prim.Native.Nat.{_-_, _<_, _≤_, min};
 ghost use mathlib.Core.Path.{_≡_};
 ghost use lib.ListN.{length};
-ghost use Rattle.model.specs.Layout.{Bucket, Count, current, octantRows};
-ghost use Rattle.words.specs.Rows.{settingIn, octantField, sampleBudget};
+ghost use Rattle.model.specs.Layout.{Count, current, sampleHeader, octantRows};
+ghost use Rattle.words.specs.Rows.{settingsIn, octantField, sampleBudget};
 ghost use Rattle.traversal.specs.Own.{ownMost, endsAt};
 
 // The depth of an octant of side 1.
@@ -21,7 +21,7 @@ fn least(a: u32, b: u32) -> u32
 
 // As many samples as the octant in a row counts, and as may still be visited.
 pub fn most(samples: &[u32], octants: &[u32], row: u32, visited: u32) -> u32
-    requires { ⌜ (2 ≤ length (now samples)) × (row < octantRows current (length (now octants))) ⌝ }
+    requires { ⌜ (sampleHeader current ≤ length (now samples)) × (row < octantRows current (length (now octants))) ⌝ }
     requires { ⌜ visited ≤ sampleBudget current (now samples) ⌝ }
     ensures { λ r. ⌜ r ≡ ownMost (now (samples .entry)) (now (octants .entry)) row visited ⌝ }
 {
@@ -31,8 +31,9 @@ pub fn most(samples: &[u32], octants: &[u32], row: u32, visited: u32) -> u32
 
 // Whether an octant is gone through sample by sample: it is taken whole, or it is not split.
 pub fn ends(samples: &[u32], octants: &[u32], whole: bool, depth: u32, row: u32) -> bool
-    requires { ⌜ (2 ≤ length (now samples)) × ((row < octantRows current (length (now octants))) × (depth ≤ 16)) ⌝ }
-    ensures { λ r. ⌜ r ≡ endsAt (16 - depth) whole (octantField current (now (octants .entry)) row Count) (settingIn current (now (samples .entry)) Bucket) ⌝ }
+    requires { ⌜ (sampleHeader current ≤ length (now samples)) × ((row < octantRows current (length (now octants))) × (depth ≤ 16)) ⌝ }
+    ensures { λ r. ⌜ r ≡ endsAt (16 - depth) whole (octantField current (now (octants .entry)) row Count)
+        (settingsIn current (now (samples .entry)) .bucket) ⌝ }
 {
     if whole {
         return true;
@@ -40,5 +41,6 @@ pub fn ends(samples: &[u32], octants: &[u32], whole: bool, depth: u32, row: u32)
     if depth == DEPTHS {
         return true;
     }
-    octant_count(octants, row) <= bucket_of(samples)
+    let settings = settings_of(samples);
+    octant_count(octants, row) <= settings.bucket
 }

@@ -11,15 +11,15 @@ use Rattle.colour.specs.declared.Colour.{Colour}
 use Rattle.colour.specs.Colour.{black, distance}
 use Rattle.colour.specs.Octant.{depths, children, childLow}
 use Rattle.colour.specs.Region.{closest}
-use Rattle.model.specs.Layout.{Bucket, Count, Child, current}
-use Rattle.words.specs.Rows.{settingIn, octantField, octantLimit, sampleBudget}
+use Rattle.model.specs.Layout.{Count, Child, current}
+use Rattle.words.specs.Rows.{settingsIn, octantField, octantLimit, sampleBudget}
 use Rattle.traversal.specs.Own.{endsAt}
 use Rattle.traversal.proofs.Laws.Rows.{own-few}
 use Rattle.nearest.specs.declared.search.Search.{Search}
 use Rattle.nearest.specs.Best.{closer}
 use Rattle.nearest.specs.Turns.{inTurn}
-use Rattle.nearest.specs.Search.{entering, ownSearch, reaches, childSearch, turnChild, searchOf, noSearch, searchAll}
-use Rattle.nearest.specs.Steps.{Sane}
+use Rattle.nearest.specs.Search.{searchEntering, ownSearch, reaches, childSearch, turnChild, searchOf, noSearch, searchAll}
+use Rattle.nearest.specs.Steps.{SearchWithin}
 
 -- What `reaches` says of a row: it is a child's, the table has it, another octant may be entered, and it comes before the best.
 pub reaches-row : (os : List ℕ) (row d : ℕ) (s : Search) → reaches os row d s ≡ true
@@ -34,13 +34,13 @@ reaches-row os row d s e =
 
 module _ (budget limit : ℕ) where
   -- One octant more may be entered below the limit.
-  pub entering-sane : (s : Search) → s .entered < limit → Sane budget limit s → Sane budget limit (entering s)
-  unfolding entering
+  pub entering-sane : (s : Search) → s .entered < limit → SearchWithin budget limit s → SearchWithin budget limit (searchEntering s)
+  unfolding searchEntering
   entering-sane s h k = record { entered = h; visited = k .visited }
 
   -- Turns that each stay within the bounds stay within them one after the other.
-  pub turns-sane : (F : ℕ → Search → Search) → ((k : ℕ) (u : Search) → Sane budget limit u → Sane budget limit (F k u))
-      → (n : ℕ) (s : Search) → Sane budget limit s → Sane budget limit (inTurn F n s)
+  pub turns-sane : (F : ℕ → Search → Search) → ((k : ℕ) (u : Search) → SearchWithin budget limit u → SearchWithin budget limit (F k u))
+      → (n : ℕ) (s : Search) → SearchWithin budget limit s → SearchWithin budget limit (inTurn F n s)
   unfolding inTurn
   turns-sane F h zero s k = k
   turns-sane F h (suc n) s k = h n (inTurn F n s) (turns-sane F h n s k)
@@ -53,15 +53,15 @@ module _ (ws os : List ℕ) (c : Colour) where
   limit = octantLimit current os
 
   -- An octant's own samples are measured within the budget, whatever the limit.
-  pub own-sane : (most row : ℕ) (s : Search) → Sane budget most s → Sane budget most (ownSearch ws os c row s)
+  pub own-sane : (most row : ℕ) (s : Search) → SearchWithin budget most s → SearchWithin budget most (ownSearch ws os c row s)
   unfolding ownSearch
   own-sane most row s k =
       record { entered = k .entered; visited = omega (arith, own-few ws os row (s .visited), k .visited) }
 
   -- A child that is entered, or not, leaves the search within the bounds, where a search below it does.
   pub child-sane : (below : ℕ → Colour → Search → Search) (side row : ℕ) (low : Colour)
-      → ((at : ℕ) (l : Colour) (u : Search) → u .entered < limit → Sane budget limit u → Sane budget limit (below at l u))
-      → (k : ℕ) (u : Search) → Sane budget limit u → Sane budget limit (childSearch os c below side row low k u)
+      → ((at : ℕ) (l : Colour) (u : Search) → u .entered < limit → SearchWithin budget limit u → SearchWithin budget limit (below at l u))
+      → (k : ℕ) (u : Search) → SearchWithin budget limit u → SearchWithin budget limit (childSearch os c below side row low k u)
   unfolding childSearch
   child-sane below side row low h k u sane = go (reaches os at d u) refl
     where
@@ -71,36 +71,36 @@ module _ (ws os : List ℕ) (c : Colour) where
       d : ℕ
       d = distance c (closest c side (childLow side k low))
 
-      go : (r : Bool) → reaches os at d u ≡ r → Sane budget limit (childSearch os c below side row low k u)
+      go : (r : Bool) → reaches os at d u ≡ r → SearchWithin budget limit (childSearch os c below side row low k u)
       go true e = rw (e, childSearch) (h at (childLow side k low) u (reaches-row os at d u e .1 .1 .0) sane)
       go false e = rw (e, childSearch) sane
 
   -- An octant that may be entered is searched within the bounds.
-  pub search-sane : (j row : ℕ) (low : Colour) (s : Search) → s .entered < limit → Sane budget limit s
-      → Sane budget limit (searchOf ws os c j row low s)
+  pub search-sane : (j row : ℕ) (low : Colour) (s : Search) → s .entered < limit → SearchWithin budget limit s
+      → SearchWithin budget limit (searchOf ws os c j row low s)
   unfolding searchOf
-  search-sane zero row low s h k = own-sane limit row (entering s) (entering-sane budget limit s h k)
-  search-sane (suc j) row low s h k = go (endsAt (suc j) false (octantField current os row Count) (settingIn current ws Bucket)) refl (search-sane j)
+  search-sane zero row low s h k = own-sane limit row (searchEntering s) (entering-sane budget limit s h k)
+  search-sane (suc j) row low s h k = go (endsAt (suc j) false (octantField current os row Count) (settingsIn current ws .bucket)) refl (search-sane j)
     where
-      go : (r : Bool) → endsAt (suc j) false (octantField current os row Count) (settingIn current ws Bucket) ≡ r
-          → ((at : ℕ) (l : Colour) (u : Search) → u .entered < limit → Sane budget limit u → Sane budget limit (searchOf ws os c j at l u))
-          → Sane budget limit (searchOf ws os c (suc j) row low s)
-      go true e ih = rw (e, searchOf) (own-sane limit row (entering s) (entering-sane budget limit s h k))
+      go : (r : Bool) → endsAt (suc j) false (octantField current os row Count) (settingsIn current ws .bucket) ≡ r
+          → ((at : ℕ) (l : Colour) (u : Search) → u .entered < limit → SearchWithin budget limit u → SearchWithin budget limit (searchOf ws os c j at l u))
+          → SearchWithin budget limit (searchOf ws os c (suc j) row low s)
+      go true e ih = rw (e, searchOf) (own-sane limit row (searchEntering s) (entering-sane budget limit s h k))
       go false e ih =
           rw (e, searchOf)
-          (turns-sane budget limit _ (λ i. child-sane (searchOf ws os c j) (2 ^ j) row low ih (turnChild c (2 ^ j) low i)) children (entering s)
+          (turns-sane budget limit _ (λ i. child-sane (searchOf ws os c j) (2 ^ j) row low ih (turnChild c (2 ^ j) low i)) children (searchEntering s)
           (entering-sane budget limit s h k))
 
   -- Before a search nothing is entered and nothing visited.
-  pub no-search-sane : (r : ℕ) → Sane budget limit (noSearch r)
+  pub no-search-sane : (r : ℕ) → SearchWithin budget limit (noSearch r)
   unfolding noSearch
   no-search-sane r = record { entered = omega arith; visited = omega arith }
 
   -- The whole search stays within the bounds.
-  pub search-all-sane : (r : ℕ) → Sane budget limit (searchAll ws os c r)
+  pub search-all-sane : (r : ℕ) → SearchWithin budget limit (searchAll ws os c r)
   unfolding searchAll noSearch
   search-all-sane r = go (ltb 0 limit) refl
     where
-      go : (t : Bool) → ltb 0 limit ≡ t → Sane budget limit (searchAll ws os c r)
+      go : (t : Bool) → ltb 0 limit ≡ t → SearchWithin budget limit (searchAll ws os c r)
       go true e = rw (e, searchAll) (search-sane depths 0 black (noSearch r) (ltb-true _ _ e) (no-search-sane r))
       go false e = rw (e, searchAll) (no-search-sane r)

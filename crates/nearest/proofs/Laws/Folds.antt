@@ -176,8 +176,8 @@ later-or c (some y) x lent = refl
 
 -- What is found after nothing is all that is found.
 later-none : (c : Colour) (o : Option Placed) (limit : ℕ) (lent : List ℕ)
-    → laterOr c o lent (bestAnswer limit (best.none limit) lent) ≡ foundAnswer c o lent
-unfolding laterOr bestAnswer best.none foundAnswer
+    → laterOr c o lent (bestAnswer limit (best.unfound limit) lent) ≡ foundAnswer c o lent
+unfolding laterOr bestAnswer best.unfound foundAnswer
 later-none c none limit lent = rw (le-ltb limit limit (omega arith), bestAnswer)
 later-none c (some x) limit lent = refl
 
@@ -230,7 +230,7 @@ measured-finds c limit best (l ∷ ls) lent b h =
 
 -- From nothing, over rows that do not fall, the answer is that of the nearest below the limit.
 pub measured-nearest : (c : Colour) (limit : ℕ) (ls : List Label) (lent : List ℕ) → Rising 0 ls
-    → bestAnswer limit (measured c (best.none limit) ls) lent ≡ foundAnswer c (nearestIn c limit (map (λ l. l .sample) ls)) lent
-unfolding best.none
+    → bestAnswer limit (measured c (best.unfound limit) ls) lent ≡ foundAnswer c (nearestIn c limit (map (λ l. l .sample) ls)) lent
+unfolding best.unfound
 measured-nearest c limit ls lent h =
-    measured-finds c limit (best.none limit) ls lent (omega arith) h ∙ later-none c (nearestIn c limit (map (λ l. l .sample) ls)) limit lent
+    measured-finds c limit (best.unfound limit) ls lent (omega arith) h ∙ later-none c (nearestIn c limit (map (λ l. l .sample) ls)) limit lent

@@ -16,15 +16,15 @@ use Rattle.colour.specs.Octant.{depths, children, childLow}
 use Rattle.colour.specs.Region.{overlaps, inside}
 use Rattle.model.specs.Layout.{Child, current}
 use Rattle.words.specs.Rows.{octantField, octantLimit, sampleBudget}
-use Rattle.listing.specs.Pass.{Tally, Visit, measuredAfter, visiting, entering, ownSamples, enters, nothing, andThen, inTurn, childVisit, ends, visitOf, noTally, passOf}
-use Rattle.listing.specs.Steps.{Sane}
+use Rattle.listing.specs.Pass.{Tally, Visit, measuredAfter, visiting, tallyEntering, ownSamples, enters, nothing, andThen, visitEach, childVisit, ends, visitOf, noTally, passOf}
+use Rattle.listing.specs.Steps.{TallyWithin}
 use Rattle.traversal.specs.Own.{ownRows}
 use Rattle.traversal.proofs.Laws.Rows.{own-few}
 use Rattle.listing.proofs.Laws.Pass.Tags.{tags-few}
 
 -- A visit that begins with tally t stays within them, and lists only what it visits.
 pub record Bounded (budget limit : ℕ) (t : Tally) (v : Visit) : Type 0 where
-  pub sane : Sane budget limit (v .after)
+  pub sane : TallyWithin budget limit (v .after)
   pub listed : t .visited + length (v .tags) ≤ v .after .visited
 
 -- What `enters` says of a row.
@@ -37,7 +37,7 @@ enters-row os R s low row t e =
     (o .0, (leb-true _ _ (r .0), ltb-true _ _ (r .1)))
 
 module _ (budget limit : ℕ) where
-  pub nothing-bounded : (t : Tally) → Sane budget limit t → Bounded budget limit t (nothing t)
+  pub nothing-bounded : (t : Tally) → TallyWithin budget limit t → Bounded budget limit t (nothing t)
   unfolding nothing
   nothing-bounded t s = record { sane = s; listed = omega arith }
 
@@ -47,21 +47,21 @@ module _ (budget limit : ℕ) where
   then-bounded t v f h k =
       record { sane = k .sane; listed = omega (arith, h .listed, k .listed, length-append (v .tags) (f (v .after) .tags)) }
 
-  pub turns-bounded : (f : ℕ → Tally → Visit) → ((k : ℕ) (u : Tally) → Sane budget limit u → Bounded budget limit u (f k u))
-      → (n : ℕ) (t : Tally) → Sane budget limit t → Bounded budget limit t (inTurn f n t)
-  unfolding inTurn
+  pub turns-bounded : (f : ℕ → Tally → Visit) → ((k : ℕ) (u : Tally) → TallyWithin budget limit u → Bounded budget limit u (f k u))
+      → (n : ℕ) (t : Tally) → TallyWithin budget limit t → Bounded budget limit t (visitEach f n t)
+  unfolding visitEach
   turns-bounded f h zero t s = nothing-bounded t s
   turns-bounded f h (suc n) t s =
       let b = turns-bounded f h n t s in
-      then-bounded t (inTurn f n t) (f n) b (h n (inTurn f n t .after) (b .sane))
+      then-bounded t (visitEach f n t) (f n) b (h n (visitEach f n t .after) (b .sane))
 
   -- An octant is entered in a row that is not passed yet.
-  pub entering-sane : (row : ℕ) (t : Tally) → t .next ≤ row → row < limit → Sane budget limit t → Sane budget limit (entering row t)
-  unfolding entering
+  pub entering-sane : (row : ℕ) (t : Tally) → t .next ≤ row → row < limit → TallyWithin budget limit t → TallyWithin budget limit (tallyEntering row t)
+  unfolding tallyEntering
   entering-sane row t p b s =
       record { entered = omega (arith, s .entered); next = omega arith; measured = s .measured; visited = s .visited }
 
-  visiting-sane : (whole : Bool) (n : ℕ) (t : Tally) → n ≤ budget - t .visited → Sane budget limit t → Sane budget limit (visiting whole n t)
+  visiting-sane : (whole : Bool) (n : ℕ) (t : Tally) → n ≤ budget - t .visited → TallyWithin budget limit t → TallyWithin budget limit (visiting whole n t)
   unfolding visiting measuredAfter
   visiting-sane true n t f s = record { entered = s .entered; next = s .next; measured = omega (arith, s .measured); visited = omega (arith, s .visited) }
   visiting-sane false n t f s = record { entered = s .entered; next = s .next; measured = omega (arith, s .measured); visited = omega (arith, s .visited) }
@@ -73,7 +73,7 @@ module _ (ws os : List ℕ) (R : Region) where
   abbrev limit : ℕ
   limit = octantLimit current os
 
-  own-bounded : (whole : Bool) (row : ℕ) (t : Tally) → Sane budget limit t → Bounded budget limit t (ownSamples ws os R whole row t)
+  own-bounded : (whole : Bool) (row : ℕ) (t : Tally) → TallyWithin budget limit t → Bounded budget limit t (ownSamples ws os R whole row t)
   unfolding ownSamples visiting
   own-bounded whole row t s =
       record {
@@ -82,13 +82,13 @@ module _ (ws os : List ℕ) (R : Region) where
       }
 
   -- From the tally before the octant was entered, which has visited as many.
-  from-entering : (row : ℕ) (t : Tally) (v : Visit) → Bounded budget limit (entering row t) v → Bounded budget limit t v
-  unfolding entering
+  from-entering : (row : ℕ) (t : Tally) (v : Visit) → Bounded budget limit (tallyEntering row t) v → Bounded budget limit t v
+  unfolding tallyEntering
   from-entering row t v h = record { sane = h .sane; listed = h .listed }
 
   pub child-bounded : (below : ℕ → Colour → Tally → Visit) (s row : ℕ) (low : Colour)
-      → ((at : ℕ) (l : Colour) (u : Tally) → u .next ≤ at → at < limit → Sane budget limit u → Bounded budget limit u (below at l u))
-      → (k : ℕ) (u : Tally) → Sane budget limit u → Bounded budget limit u (childVisit os R below s row low k u)
+      → ((at : ℕ) (l : Colour) (u : Tally) → u .next ≤ at → at < limit → TallyWithin budget limit u → Bounded budget limit u (below at l u))
+      → (k : ℕ) (u : Tally) → TallyWithin budget limit u → Bounded budget limit u (childVisit os R below s row low k u)
   unfolding childVisit
   child-bounded below s row low h k u sane = go (enters os R s (childLow s k low) (octantField current os row (Child k)) u) refl
     where
@@ -99,26 +99,26 @@ module _ (ws os : List ℕ) (R : Region) where
           rw (e, childVisit) (h (octantField current os row (Child k)) (childLow s k low) u (w .1 .0) (w .1 .1) sane)
       go false e = rw (e, childVisit) (nothing-bounded budget limit u sane)
 
-  pub visit-bounded : (j row : ℕ) (low : Colour) (t : Tally) → t .next ≤ row → row < limit → Sane budget limit t
+  pub visit-bounded : (j row : ℕ) (low : Colour) (t : Tally) → t .next ≤ row → row < limit → TallyWithin budget limit t
       → Bounded budget limit t (visitOf ws os R j row low t)
   unfolding visitOf
   visit-bounded zero row low t p b s =
-      from-entering row t _ (own-bounded (inside R (2 ^ zero) low) row (entering row t) (entering-sane budget limit row t p b s))
+      from-entering row t _ (own-bounded (inside R (2 ^ zero) low) row (tallyEntering row t) (entering-sane budget limit row t p b s))
   visit-bounded (suc j) row low t p b s = go (ends ws os R (suc j) row low) refl (λ at l u. visit-bounded j at l u)
     where
       go : (r : Bool) → ends ws os R (suc j) row low ≡ r
-          → ((at : ℕ) (l : Colour) (u : Tally) → u .next ≤ at → at < limit → Sane budget limit u → Bounded budget limit u (visitOf ws os R j at l u))
+          → ((at : ℕ) (l : Colour) (u : Tally) → u .next ≤ at → at < limit → TallyWithin budget limit u → Bounded budget limit u (visitOf ws os R j at l u))
           → Bounded budget limit t (visitOf ws os R (suc j) row low t)
       go true e ih =
           rw (e, visitOf)
-          (from-entering row t _ (own-bounded (inside R (2 ^ suc j) low) row (entering row t) (entering-sane budget limit row t p b s)))
+          (from-entering row t _ (own-bounded (inside R (2 ^ suc j) low) row (tallyEntering row t) (entering-sane budget limit row t p b s)))
       go false e ih =
           rw (e, visitOf)
           (from-entering row t _
           (turns-bounded budget limit (childVisit os R (visitOf ws os R j) (2 ^ j) row low) (child-bounded (visitOf ws os R j) (2 ^ j) row low ih)
-          children (entering row t) (entering-sane budget limit row t p b s)))
+          children (tallyEntering row t) (entering-sane budget limit row t p b s)))
 
-  pub no-tally-sane : Sane budget limit noTally
+  pub no-tally-sane : TallyWithin budget limit noTally
   unfolding noTally
   no-tally-sane = record { entered = omega arith; next = omega arith; measured = omega arith; visited = omega arith }
 

@@ -12,7 +12,7 @@ use Rattle.colour.specs.Octant.{childLow}
 use Rattle.colour.specs.Region.{overlaps}
 use Rattle.model.specs.Layout.{Child, current}
 use Rattle.words.specs.Rows.{octantField, octantLimit}
-use Rattle.listing.specs.Pass.{Tally, Visit, enters, nothing, andThen, inTurn, childVisit}
+use Rattle.listing.specs.Pass.{Tally, Visit, enters, nothing, andThen, visitEach, childVisit}
 
 -- A visit that finds nothing adds nothing.
 pub then-nothing : (v : Visit) (f : Tally → Visit) → f (v .after) ≡ nothing (v .after) → andThen v f ≡ v
@@ -22,26 +22,26 @@ then-nothing v f e =
     ∙ ap (λ (l : List ℕ). record { tags = l; after = v .after }) (append-nil (v .tags))
 
 module _ (f : ℕ → Tally → Visit) (t : Tally) where
-  pub turn-more : (n : ℕ) → inTurn f (suc n) t ≡ andThen (inTurn f n t) (f n)
-  unfolding inTurn
+  pub turn-more : (n : ℕ) → visitEach f (suc n) t ≡ andThen (visitEach f n t) (f n)
+  unfolding visitEach
   turn-more n = refl
 
-  pub turn-none : inTurn f 0 t ≡ nothing t
-  unfolding inTurn
+  pub turn-none : visitEach f 0 t ≡ nothing t
+  unfolding visitEach
   turn-none = refl
 
   -- Turns that find nothing, whatever was counted before them, can be left out.
-  pub turns-skipped : (p k : ℕ) → p ≤ k → ((i : ℕ) → p ≤ i → i < k → (u : Tally) → f i u ≡ nothing u) → inTurn f k t ≡ inTurn f p t
-  turns-skipped p zero h s = ap (λ (n : ℕ). inTurn f n t) (omega arith)
+  pub turns-skipped : (p k : ℕ) → p ≤ k → ((i : ℕ) → p ≤ i → i < k → (u : Tally) → f i u ≡ nothing u) → visitEach f k t ≡ visitEach f p t
+  turns-skipped p zero h s = ap (λ (n : ℕ). visitEach f n t) (omega arith)
   turns-skipped p (suc k) h s = go (eqb p (suc k)) refl (λ l. turns-skipped p k l (λ i a b u. s i a (omega arith) u))
     where
-      go : (r : Bool) → eqb p (suc k) ≡ r → (p ≤ k → inTurn f k t ≡ inTurn f p t) → inTurn f (suc k) t ≡ inTurn f p t
-      go true e ih = ap (λ (n : ℕ). inTurn f n t) (sym (eqb-true p (suc k) e))
+      go : (r : Bool) → eqb p (suc k) ≡ r → (p ≤ k → visitEach f k t ≡ visitEach f p t) → visitEach f (suc k) t ≡ visitEach f p t
+      go true e ih = ap (λ (n : ℕ). visitEach f n t) (sym (eqb-true p (suc k) e))
       go false e ih =
           let d : p ≡ suc k → ⊥ = eqb-false p (suc k) e in
           let l : p ≤ k = omega (arith, d) in
           turn-more k
-          ∙ then-nothing (inTurn f k t) (f k) (s k l (omega arith) (inTurn f k t .after))
+          ∙ then-nothing (visitEach f k t) (f k) (s k l (omega arith) (visitEach f k t .after))
           ∙ ih l
 
 -- When a child is not entered: its word is 0, and row 0 is the root's, which is passed; it does not overlap; its row is passed or not there.

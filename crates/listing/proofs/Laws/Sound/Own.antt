@@ -19,7 +19,7 @@ use Rattle.model.specs.Machine.{Machine}
 use Rattle.model.specs.Sound.{Shows}
 use Rattle.model.proofs.Kept.{keep-append}
 use Rattle.model.proofs.Tree.Cubes.{Reached, lies}
-use Rattle.listing.specs.Pass.{Tally, Visit, takes, tagsOf, measuredAfter, visiting, entering, ownSamples}
+use Rattle.listing.specs.Pass.{Tally, Visit, takes, tagsOf, measuredAfter, visiting, tallyEntering, ownSamples}
 use Rattle.traversal.specs.Own.{ownRows}
 use Rattle.traversal.proofs.Laws.Sound.Each.{All, all-order, all-then, keep-refused}
 use Rattle.traversal.proofs.Laws.Sound.Shown.{Said}
@@ -82,8 +82,8 @@ module _ (ws os : List ℕ) (m : Machine) (shows : Shows current m (pair ws os))
 
     -- An octant that is gone through sample by sample.
     own-agrees : (whole : Bool) → inside R (2 ^ j) low ≡ whole → visit R b j low xs ≡ record { entered = 1; measured = elim whole [ true ↦ 0 | false ↦ length xs ] }
-        → 1 ≤ octantsOf b j xs → Agrees j low xs at t (ownSamples ws os R whole at (entering at t))
-    unfolding ownSamples visiting measuredAfter entering
+        → 1 ≤ octantsOf b j xs → Agrees j low xs at t (ownSamples ws os R whole at (tallyEntering at t))
+    unfolding ownSamples visiting measuredAfter tallyEntering
     own-agrees whole e c o =
         let size : length (ownRows ws os at (t .visited)) ≡ length xs = own-size ws os m shows (st .stands) in
         record {
@@ -99,15 +99,15 @@ module _ (ws os : List ℕ) (m : Machine) (shows : Shows current m (pair ws os))
       where
         measured-by : (whole : Bool) → visit R b j low xs .measured ≡ elim whole [ true ↦ 0 | false ↦ length xs ]
             → length (ownRows ws os at (t .visited)) ≡ length xs
-            → visiting whole (length (ownRows ws os at (t .visited))) (entering at t) .measured ≡ t .measured + visit R b j low xs .measured
+            → visiting whole (length (ownRows ws os at (t .visited))) (tallyEntering at t) .measured ≡ t .measured + visit R b j low xs .measured
         measured-by true c d = omega (arith, c)
         measured-by false c d = omega (arith, c, d)
 
     -- It is gone through sample by sample where it is inside or not split.
     pub ended-agrees : (inside R (2 ^ j) low ≡ false → splits b j xs ≡ false)
-        → Agrees j low xs at t (ownSamples ws os R (inside R (2 ^ j) low) at (entering at t))
+        → Agrees j low xs at t (ownSamples ws os R (inside R (2 ^ j) low) at (tallyEntering at t))
     ended-agrees e = go (inside R (2 ^ j) low) refl
       where
-        go : (whole : Bool) → inside R (2 ^ j) low ≡ whole → Agrees j low xs at t (ownSamples ws os R (inside R (2 ^ j) low) at (entering at t))
+        go : (whole : Bool) → inside R (2 ^ j) low ≡ whole → Agrees j low xs at t (ownSamples ws os R (inside R (2 ^ j) low) at (tallyEntering at t))
         go true i = rw i (own-agrees true i (visit-inside R b j low xs (st .stands .some) (st .meets) i) (octants-some b j xs (st .stands .some)))
         go false i = rw i (own-agrees false i (visit-leaf R b j low xs (st .stands .some) (st .meets) i (e i)) (octants-some b j xs (st .stands .some)))

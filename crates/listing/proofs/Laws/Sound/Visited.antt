@@ -8,6 +8,7 @@ use native.Mathlib.Omega.{arith}
 use borrow.Author.Tests.{lt-ltb, le-ltb, leb-true, leb-false}
 use lib.Dec.{leb}
 use lib.ListN.{length}
+use Rattle.colour.specs.declared.Settings.{Settings}
 use Rattle.colour.specs.declared.Colour.{Colour}
 use Rattle.colour.specs.declared.Region.{Region}
 use Rattle.colour.specs.Octant.{children, childLow}
@@ -23,9 +24,9 @@ use Rattle.model.proofs.Lists.{none-left}
 use Rattle.model.proofs.Tree.Cubes.{below}
 use Rattle.model.proofs.Tree.Order.{order-of-length, parts-length}
 use Rattle.model.proofs.Tree.Splits.{order-split, octants-split, child-within}
-use Rattle.octree.proofs.Laws.Tables.Check.{bucket-shown}
+use Rattle.octree.proofs.Laws.Tables.Check.{settings-shown}
 use Rattle.words.specs.Rows.{octantField}
-use Rattle.listing.specs.Pass.{Tally, Visit, entering, enters, nothing, andThen, inTurn, childVisit, ends, visitOf}
+use Rattle.listing.specs.Pass.{Tally, Visit, tallyEntering, enters, nothing, andThen, visitEach, childVisit, ends, visitOf}
 use Rattle.listing.proofs.Laws.Pass.Turns.{passed-by, apart-from, goes-in, turned-off, turned-in}
 use Rattle.traversal.specs.Own.{endsAt}
 use Rattle.traversal.proofs.Laws.Sound.Shown.{limit-shown}
@@ -165,17 +166,17 @@ module _ (ws os : List ℕ) (m : Machine) (shows : Shows current m (pair ws os))
           visited = omega (arith, d .visited, a .visited);
         }
 
-    turns : (k : ℕ) → k ≤ children → Turned k (inTurn turn k (entering at t))
-    unfolding inTurn nothing andThen entering joined total keep childRow
+    turns : (k : ℕ) → k ≤ children → Turned k (visitEach turn k (tallyEntering at t))
+    unfolding visitEach nothing andThen tallyEntering joined total keep childRow
     turns zero l =
         record { tags = refl; entered = omega arith; measured = omega arith; past = omega arith; next = omega arith; visited = omega arith }
     turns (suc k) l =
         let w = turns k (omega arith) in
-        turn-adds k (inTurn turn k (entering at t)) (turn k (inTurn turn k (entering at t) .after)) w
-        (child-adds k l (inTurn turn k (entering at t) .after) (w .past) (w .next) (omega (arith, w .visited, child-within j k xs l, st .stands .room)))
+        turn-adds k (visitEach turn k (tallyEntering at t)) (turn k (visitEach turn k (tallyEntering at t) .after)) w
+        (child-adds k l (visitEach turn k (tallyEntering at t) .after) (w .past) (w .next) (omega (arith, w .visited, child-within j k xs l, st .stands .room)))
 
     -- All of them: the octant's own visit.
-    split-agrees : inside R (2 ^ suc j) low ≡ false → Agreeing (suc j) low xs at t (inTurn turn children (entering at t))
+    split-agrees : inside R (2 ^ suc j) low ≡ false → Agreeing (suc j) low xs at t (visitEach turn children (tallyEntering at t))
     unfolding childRow
     split-agrees i =
         let w = turns children (omega arith) in
@@ -194,7 +195,7 @@ module _ (ws os : List ℕ) (m : Machine) (shows : Shows current m (pair ws os))
       → ends ws os R (suc j) at low ≡ (inside R (2 ^ suc j) low || leb (length xs) b)
   unfolding ends endsAt octantWord
   ends-is j low xs at t st =
-      ap₂ (λ (x y : ℕ). inside R (2 ^ suc j) low || leb x y) (held-count os b (suc j) at xs (st .stands .held) (st .stands .some)) (bucket-shown ws os m shows)
+      ap₂ (λ (x y : ℕ). inside R (2 ^ suc j) low || leb x y) (held-count os b (suc j) at xs (st .stands .held) (st .stands .some)) (ap (λ (s : Settings). s .bucket) (settings-shown ws os m shows))
 
   pub visit-agrees : (j : ℕ) (low : Colour) (xs : List Placed) (at : ℕ) (t : Tally) → Standing j low xs at t → Agreeing j low xs at t (visitOf ws os R j at low t)
   unfolding visitOf splits

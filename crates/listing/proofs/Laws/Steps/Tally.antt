@@ -6,7 +6,7 @@ use mathlib.Core.Path.{_≡_, refl, ap, _∙_}
 use native.Mathlib.Numerals.{add-one}
 use native.Mathlib.Omega.{arith}
 use lib.ListN.{length, getD, set}
-use Rattle.listing.specs.Pass.{Tally, measuredAfter, entering, visiting}
+use Rattle.listing.specs.Pass.{Tally, measuredAfter, tallyEntering, visiting}
 use Rattle.listing.specs.Steps.{tallyWords, listedIn, tallyIn}
 
 -- Five words are those of what they say.
@@ -36,8 +36,8 @@ module _ (n : ℕ) (t : Tally) where
 
 -- The words after an octant was entered, and after samples were visited.
 module _ (ws : List ℕ) (five : length ws ≡ 5) where
-  pub enter-words : (row : ℕ) → set (set ws 1 (getD ws 1 0 + 1)) 3 (row + 1) ≡ tallyWords (listedIn ws) (entering row (tallyIn ws))
-  unfolding tallyWords listedIn tallyIn entering
+  pub enter-words : (row : ℕ) → set (set ws 1 (getD ws 1 0 + 1)) 3 (row + 1) ≡ tallyWords (listedIn ws) (tallyEntering row (tallyIn ws))
+  unfolding tallyWords listedIn tallyIn tallyEntering
   enter-words row = ap (λ (l : List ℕ). set (set l 1 (getD ws 1 0 + 1)) 3 (row + 1)) (five-words ws five) ∙ rw (add-one, add-one)
 
   pub count-words : (whole : Bool) (seen end measured : ℕ) → measured ≡ measuredAfter whole (getD ws 2 0) seen

@@ -17,8 +17,8 @@ use Rattle.colour.specs.Region.{overlaps}
 use Rattle.colour.proofs.Laws.Mask.{from, First, mask-none, mask-first, mask-start}
 use Rattle.model.specs.Layout.{Child, current}
 use Rattle.words.specs.Rows.{octantField, octantLimit, sampleBudget}
-use Rattle.listing.specs.Pass.{Tally, Visit, nothing, andThen, inTurn, childVisit, visitOf}
-use Rattle.listing.specs.Steps.{Sane, tallyWords, listedIn, tallyIn, Counting, Visited}
+use Rattle.listing.specs.Pass.{Tally, Visit, nothing, andThen, visitEach, childVisit, visitOf}
+use Rattle.listing.specs.Steps.{TallyWithin, tallyWords, listedIn, tallyIn, Counting, Visited}
 use Rattle.listing.proofs.Laws.Pass.Turns.{then-nothing, turn-more, turn-none, turns-skipped, apart-from, barred, let-in, turned-off, turned-in}
 use Rattle.listing.proofs.Laws.Pass.Bounds.{Bounded, turns-bounded, child-bounded, visit-bounded}
 use Rattle.listing.proofs.Laws.Steps.Tally.{five-words, words-five, words-listed, words-tally}
@@ -43,7 +43,7 @@ module _ {ws os words : List ℕ} (c : Counting ws os words) where
         octants = c .octants;
         small = c .small;
         five = ap length (d .tally) ∙ words-five n (v .after);
-        sane = subst (Sane (sampleBudget current ws) (octantLimit current os)) (sym said) (b .sane);
+        sane = subst (TallyWithin (sampleBudget current ws) (octantLimit current os)) (sym said) (b .sane);
         listed = omega (arith, many, ap (λ (t : Tally). t .visited) said, c .listed, b .listed);
       }
 
@@ -99,7 +99,7 @@ module _ (ws os : List ℕ) (R : Region) (j row : ℕ) (low : Colour) where
     pub done : ℕ
     pub few : done ≤ 8
     pub left : mask ≡ maskOf (from done meets) 8
-    pub visited : Visited (inTurn turn done (tallyIn words₀)) words₀ listing₀ words listing
+    pub visited : Visited (visitEach turn done (tallyIn words₀)) words₀ listing₀ words listing
 
   pub turning-begins : (words listing : List ℕ) (mask : ℕ) → length words ≡ 5 → mask ≡ overlapMask R (2 ^ j) low → Turning words listing mask words listing
   unfolding overlapMask children
@@ -113,7 +113,7 @@ module _ (ws os : List ℕ) (R : Region) (j row : ℕ) (low : Colour) where
 
   module _ {words₀ listing₀ words listing : List ℕ} {mask : ℕ} (g : Turning words₀ listing₀ mask words listing) where
     -- All that overlap were taken.
-    pub turning-ends : mask ≡ 0 → Visited (inTurn turn children (tallyIn words₀)) words₀ listing₀ words listing
+    pub turning-ends : mask ≡ 0 → Visited (visitEach turn children (tallyIn words₀)) words₀ listing₀ words listing
     unfolding children
     turning-ends z =
         subst (λ (v : Visit). Visited v words₀ listing₀ words listing)
@@ -131,19 +131,19 @@ module _ (ws os : List ℕ) (R : Region) (j row : ℕ) (low : Colour) where
           → r ≡ (leb (tallyIn words .next) row′ && ltb row′ limit) → allowed k (tallyIn words) ≡ r
       allowed-is row′ limit r e f told = sym (told ∙ ap₂ (λ (x y : ℕ). leb (tallyIn words .next) x && ltb x y) e f)
 
-      up-to : inTurn turn k (tallyIn words₀) ≡ inTurn turn (g .done) (tallyIn words₀)
+      up-to : visitEach turn k (tallyIn words₀) ≡ visitEach turn (g .done) (tallyIn words₀)
       up-to = turns-skipped turn (tallyIn words₀) (g .done) k (is-first .least) (λ i a b u. turn-apart i (is-first .skipped i a b) u)
 
-      tally-so-far : tallyIn words ≡ inTurn turn (g .done) (tallyIn words₀) .after
+      tally-so-far : tallyIn words ≡ visitEach turn (g .done) (tallyIn words₀) .after
       tally-so-far =
-          let v : Visit = inTurn turn (g .done) (tallyIn words₀) in
+          let v : Visit = visitEach turn (g .done) (tallyIn words₀) in
           ap tallyIn (g .visited .tally) ∙ words-tally (listedIn words₀ + length (v .tags)) (v .after)
 
       -- It may not be entered.
       pub turning-barred : (mask′ : ℕ) → mask′ ≡ mask - 2 ^ k → allowed k (tallyIn words) ≡ false → Turning words₀ listing₀ mask′ words listing
       turning-barred mask′ m e =
-          let v : Visit = inTurn turn k (tallyIn words₀) in
-          let same : inTurn turn (suc k) (tallyIn words₀) ≡ inTurn turn (g .done) (tallyIn words₀) =
+          let v : Visit = visitEach turn k (tallyIn words₀) in
+          let same : visitEach turn (suc k) (tallyIn words₀) ≡ visitEach turn (g .done) (tallyIn words₀) =
           turn-more turn (tallyIn words₀) k
           ∙ then-nothing v (turn k) (turn-barred k (v .after) (ap (allowed k) (ap (λ (w : Visit). w .after) up-to ∙ sym tally-so-far) ∙ e))
           ∙ up-to in
@@ -159,11 +159,11 @@ module _ (ws os : List ℕ) (R : Region) (j row : ℕ) (low : Colour) where
           → Visited (visitOf ws os R j (at k) (childLow (2 ^ j) k low) (tallyIn words)) words listing words′ listing′
           → Turning words₀ listing₀ mask′ words′ listing′
       turning-visited mask′ {words′} {listing′} m e d =
-          let v : Visit = inTurn turn (g .done) (tallyIn words₀) in
+          let v : Visit = visitEach turn (g .done) (tallyIn words₀) in
           let own : Visited (turn k (v .after)) words listing words′ listing′ =
           subst (λ (u : Tally). Visited (turn k u) words listing words′ listing′) tally-so-far
           (subst (λ (w : Visit). Visited w words listing words′ listing′) (sym (turn-entered k (tallyIn words) (is-first .is) e)) d) in
-          let same : inTurn turn (suc k) (tallyIn words₀) ≡ andThen v (turn k) =
+          let same : visitEach turn (suc k) (tallyIn words₀) ≡ andThen v (turn k) =
           turn-more turn (tallyIn words₀) k ∙ ap (λ (w : Visit). andThen w (turn k)) up-to in
           record {
             done = suc k;

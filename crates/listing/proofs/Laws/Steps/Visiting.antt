@@ -15,11 +15,11 @@ use Rattle.colour.specs.declared.Region.{Region}
 use Rattle.colour.specs.Octant.{depths, sideAt, children, childLow, childCube, Within}
 use Rattle.colour.specs.Mask.{overlapMask}
 use Rattle.colour.specs.Region.{inside}
-use Rattle.model.specs.Layout.{Bucket, First, Count, current}
-use Rattle.words.specs.Rows.{settingIn, octantField, octantLimit, sampleBudget}
+use Rattle.model.specs.Layout.{First, Count, current}
+use Rattle.words.specs.Rows.{settingsIn, octantField, octantLimit, sampleBudget}
 use Rattle.listing.specs.declared.follow.Run.{Run}
-use Rattle.listing.specs.Pass.{Tally, Visit, tagsOf, visiting, entering, ownSamples, inTurn, ends, visitOf}
-use Rattle.listing.specs.Steps.{Sane, tallyWords, listedIn, tallyIn, Counting, Followed, Visited}
+use Rattle.listing.specs.Pass.{Tally, Visit, tagsOf, visiting, tallyEntering, ownSamples, visitEach, ends, visitOf}
+use Rattle.listing.specs.Steps.{TallyWithin, tallyWords, listedIn, tallyIn, Counting, Followed, Visited}
 use Rattle.traversal.specs.Own.{rowsFrom, ownMost, ownRows, endsAt}
 use Rattle.traversal.proofs.Laws.Rows.{budget-most, own-few}
 use Rattle.traversal.proofs.Laws.Cubes.{half-is, child-depth}
@@ -36,7 +36,7 @@ allowed-row r n row limit limit′ told e same =
 -- What is visited, by whether the octant is gone through sample by sample.
 module _ (ws os : List ℕ) (R : Region) (row : ℕ) (low : Colour) (t : Tally) where
   visit-own : (left : ℕ) → ends ws os R left row low ≡ true
-      → visitOf ws os R left row low t ≡ ownSamples ws os R (inside R (2 ^ left) low) row (entering row t)
+      → visitOf ws os R left row low t ≡ ownSamples ws os R (inside R (2 ^ left) low) row (tallyEntering row t)
   unfolding visitOf
   visit-own zero e = refl
   visit-own (suc j) e = rw (e, visitOf)
@@ -47,7 +47,7 @@ module _ (ws os : List ℕ) (R : Region) (row : ℕ) (low : Colour) (t : Tally) 
   ends-deep (suc j) e = omega arith
 
   visit-turns : (left : ℕ) → ends ws os R left row low ≡ false
-      → visitOf ws os R left row low t ≡ inTurn (turn ws os R (left - 1) row low) children (entering row t)
+      → visitOf ws os R left row low t ≡ visitEach (turn ws os R (left - 1) row low) children (tallyEntering row t)
   unfolding visitOf
   visit-turns zero e = absurd (omega (arith, ends-deep zero e))
   visit-turns (suc j) e = rw (sub-one, e, visitOf)
@@ -88,7 +88,7 @@ module _ (ws os : List ℕ) (R : Region) (whole : Bool) (row : ℕ) (words : Lis
 -- In an octant given by its cube, that was entered.
 module _ (ws os : List ℕ) (R : Region) (row : ℕ) (cube : Cube) (words words₁ : List ℕ) (within : Within cube) (c : Counting ws os words)
     (past : tallyIn words .next ≤ row) (lim : row < octantLimit current os)
-    (into : words₁ ≡ tallyWords (listedIn words) (entering row (tallyIn words))) where
+    (into : words₁ ≡ tallyWords (listedIn words) (tallyEntering row (tallyIn words))) where
   abbrev left : ℕ
   left = 16 - cube .depth
 
@@ -96,22 +96,22 @@ module _ (ws os : List ℕ) (R : Region) (row : ℕ) (cube : Cube) (words words�
   unfolding sideAt depths
   side-is = within .sized
 
-  said : tallyIn words₁ ≡ entering row (tallyIn words)
-  said = ap tallyIn into ∙ words-tally (listedIn words) (entering row (tallyIn words))
+  said : tallyIn words₁ ≡ tallyEntering row (tallyIn words)
+  said = ap tallyIn into ∙ words-tally (listedIn words) (tallyEntering row (tallyIn words))
 
   many : listedIn words₁ ≡ listedIn words
-  many = ap listedIn into ∙ words-listed (listedIn words) (entering row (tallyIn words))
+  many = ap listedIn into ∙ words-listed (listedIn words) (tallyEntering row (tallyIn words))
 
   pub entered-counting : Counting ws os words₁
-  unfolding entering
+  unfolding tallyEntering
   entered-counting =
       record {
         samples = c .samples;
         octants = c .octants;
         small = c .small;
-        five = ap length into ∙ words-five (listedIn words) (entering row (tallyIn words));
+        five = ap length into ∙ words-five (listedIn words) (tallyEntering row (tallyIn words));
         sane =
-            subst (Sane (sampleBudget current ws) (octantLimit current os)) (sym said)
+            subst (TallyWithin (sampleBudget current ws) (octantLimit current os)) (sym said)
             (entering-sane (sampleBudget current ws) (octantLimit current os) row (tallyIn words) past lim (c .sane));
         listed = omega (arith, many, ap (λ (t : Tally). t .visited) said, c .listed);
       }
@@ -126,14 +126,14 @@ module _ (ws os : List ℕ) (R : Region) (row : ℕ) (cube : Cube) (words words�
 
   -- Whether it is gone through sample by sample, as the function says.
   module _ (whole e : Bool) (told : whole ≡ inside R (cube .side) (cube .low))
-      (tells : e ≡ endsAt left whole (octantField current os row Count) (settingIn current ws Bucket)) where
+      (tells : e ≡ endsAt left whole (octantField current os row Count) (settingsIn current ws .bucket)) where
     whole-is : whole ≡ inside R (2 ^ left) (cube .low)
     whole-is = told ∙ ap (λ (s : ℕ). inside R s (cube .low)) side-is
 
     ends-is : ends ws os R left row (cube .low) ≡ e
     unfolding ends
     ends-is =
-        sym (tells ∙ ap (λ (w : Bool). endsAt left w (octantField current os row Count) (settingIn current ws Bucket)) whole-is)
+        sym (tells ∙ ap (λ (w : Bool). endsAt left w (octantField current os row Count) (settingsIn current ws .bucket)) whole-is)
 
     pub own-visited : e ≡ true → {listing words′ listing′ : List ℕ} → Visited (ownSamples ws os R whole row (tallyIn words₁)) words₁ listing words′ listing′
         → Visited (visitOf ws os R left row (cube .low) (tallyIn words)) words listing words′ listing′
@@ -147,11 +147,11 @@ module _ (ws os : List ℕ) (R : Region) (row : ℕ) (cube : Cube) (words words�
     deep n = omega (arith, ends-deep ws os R row (cube .low) (tallyIn words) left (ends-is ∙ n))
 
     pub turns-visited : e ≡ false → {listing words′ listing′ : List ℕ}
-        → Visited (inTurn (turn ws os R (left - 1) row (cube .low)) children (tallyIn words₁)) words₁ listing words′ listing′
+        → Visited (visitEach (turn ws os R (left - 1) row (cube .low)) children (tallyIn words₁)) words₁ listing words′ listing′
         → Visited (visitOf ws os R left row (cube .low) (tallyIn words)) words listing words′ listing′
     turns-visited n {listing} {words′} {listing′} d =
-        let same : inTurn (turn ws os R (left - 1) row (cube .low)) children (tallyIn words₁) ≡ visitOf ws os R left row (cube .low) (tallyIn words) =
-        ap (inTurn (turn ws os R (left - 1) row (cube .low)) children) said
+        let same : visitEach (turn ws os R (left - 1) row (cube .low)) children (tallyIn words₁) ≡ visitOf ws os R left row (cube .low) (tallyIn words) =
+        ap (visitEach (turn ws os R (left - 1) row (cube .low)) children) said
         ∙ sym (visit-turns ws os R row (cube .low) (tallyIn words) left (ends-is ∙ n)) in
         from-before (subst (λ (v : Visit). Visited v words₁ listing words′ listing′) same d)
 

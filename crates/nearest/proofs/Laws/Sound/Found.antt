@@ -19,7 +19,7 @@ use Rattle.words.specs.Rows.{octantLimit}
 use Rattle.traversal.proofs.Laws.Sound.Shown.{limit-shown}
 use Rattle.traversal.proofs.Laws.Sound.Standing.{octants-some, root-stands}
 use Rattle.nearest.specs.declared.best.Best.{Best}
-use Rattle.nearest.specs.Best.{none, bestAnswer}
+use Rattle.nearest.specs.Best.{unfound, bestAnswer}
 use Rattle.nearest.specs.Search.{noSearch, searchAll}
 use Rattle.nearest.proofs.Laws.Labels.{labelled, labelled-none, labelled-order, labelled-rising}
 use Rattle.nearest.proofs.Laws.Folds.{measured, measured-nearest}
@@ -33,15 +33,15 @@ module _ (ws os : List ℕ) (m : Machine) (shows : Shows current m (pair ws os))
   xs = placed (m .set)
 
   -- A set with no sample has no tree, and nothing is found.
-  nothing-found : xs ≡ [] → searchAll ws os c r .best ≡ measured c (none (r * r)) (labelled b depths 0 xs)
+  nothing-found : xs ≡ [] → searchAll ws os c r .best ≡ measured c (unfound (r * r)) (labelled b depths 0 xs)
   unfolding searchAll noSearch octants measured
   nothing-found e =
       let gone : octantLimit current os ≡ 0 = limit-shown ws os m shows ∙ ap (octantsOf b depths) e ∙ no-octants b depths in
       rw (le-ltb 0 (octantLimit current os) (omega arith), searchAll)
-      (sym (ap (measured c (none (r * r))) (ap (labelled b depths 0) e ∙ labelled-none b depths 0)))
+      (sym (ap (measured c (unfound (r * r))) (ap (labelled b depths 0) e ∙ labelled-none b depths 0)))
 
   -- The root is searched.
-  root-searched : 1 ≤ length xs → searchAll ws os c r .best ≡ measured c (none (r * r)) (labelled b depths 0 xs)
+  root-searched : 1 ≤ length xs → searchAll ws os c r .best ≡ measured c (unfound (r * r)) (labelled b depths 0 xs)
   unfolding searchAll noSearch octants
   root-searched g =
       let root = octants-some b depths xs g in
@@ -49,10 +49,10 @@ module _ (ws os : List ℕ) (m : Machine) (shows : Shows current m (pair ws os))
       (search-agrees ws os m shows c depths black xs 0 (noSearch r) (record { stands = root-stands ws os m shows g; room = omega arith }) .best)
 
   -- The search comes to the best of all samples in the order.
-  pub search-best : searchAll ws os c r .best ≡ measured c (none (r * r)) (labelled b depths 0 xs)
+  pub search-best : searchAll ws os c r .best ≡ measured c (unfound (r * r)) (labelled b depths 0 xs)
   search-best = go xs refl
     where
-      go : (zs : List Placed) → xs ≡ zs → searchAll ws os c r .best ≡ measured c (none (r * r)) (labelled b depths 0 xs)
+      go : (zs : List Placed) → xs ≡ zs → searchAll ws os c r .best ≡ measured c (unfound (r * r)) (labelled b depths 0 xs)
       go [] e = nothing-found e
       go (z ∷ zs) e = root-searched (omega (arith, ap length e))
 

@@ -24,7 +24,7 @@ use Rattle.traversal.proofs.Laws.Sound.Standing.{Standing, all-said, own-rows, 
 use Rattle.nearest.specs.declared.best.Best.{Best}
 use Rattle.nearest.specs.declared.search.Search.{Search}
 use Rattle.nearest.specs.Best.{taken}
-use Rattle.nearest.specs.Search.{measureRow, measureRows, entering, ownSearch}
+use Rattle.nearest.specs.Search.{measureRow, measureRows, searchEntering, ownSearch}
 use Rattle.nearest.proofs.Laws.Labels.{label, labelled, labelled-leaf}
 use Rattle.nearest.proofs.Laws.Folds.{measured}
 
@@ -66,8 +66,8 @@ module _ (ws os : List ℕ) (m : Machine) (shows : Shows current m (pair ws os))
 
   -- An unsplit octant.
   pub own-agrees : (j : ℕ) (low : Colour) (xs : List Placed) (at : ℕ) (s : Search) → Stands j low xs at s → splits b j xs ≡ false
-      → Agrees j xs at s (ownSearch ws os c at (entering s))
-  unfolding ownSearch entering
+      → Agrees j xs at s (ownSearch ws os c at (searchEntering s))
+  unfolding ownSearch searchEntering
   own-agrees j low xs at s st e =
       let size : length (ownRows ws os at (s .visited)) ≡ length xs = own-size ws os m shows (st .stands) in
       record {

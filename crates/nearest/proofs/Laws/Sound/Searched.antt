@@ -9,25 +9,26 @@ use borrow.Author.Tests.{lt-ltb, le-ltb, leb-true, leb-false}
 use lib.Bits.{bitXor}
 use lib.Dec.{leb}
 use lib.ListN.{length}
+use Rattle.colour.specs.declared.Settings.{Settings}
 use Rattle.colour.specs.declared.Colour.{Colour}
 use Rattle.colour.specs.Octant.{children}
 use Rattle.colour.specs.Nearby.{closestChild}
 use Rattle.model.specs.Lists.{total}
 use Rattle.model.specs.SampleSet.{Placed, part, splits, octantsOf}
-use Rattle.model.specs.Layout.{Bucket, Count, current}
+use Rattle.model.specs.Layout.{Count, current}
 use Rattle.model.specs.Tables.{pair, childRow, octantWord}
 use Rattle.model.specs.Machine.{Machine}
 use Rattle.model.specs.Sound.{Shows}
 use Rattle.model.proofs.Lists.{total-past}
 use Rattle.model.proofs.Tree.Order.{parts-length}
 use Rattle.model.proofs.Tree.Splits.{octants-split}
-use Rattle.octree.proofs.Laws.Tables.Check.{bucket-shown}
-use Rattle.words.specs.Rows.{settingIn, octantField}
+use Rattle.octree.proofs.Laws.Tables.Check.{settings-shown}
+use Rattle.words.specs.Rows.{settingsIn, octantField}
 use Rattle.traversal.specs.Own.{endsAt}
 use Rattle.traversal.proofs.Laws.Sound.Held.{held-count}
 use Rattle.nearest.specs.declared.search.Search.{Search}
 use Rattle.nearest.specs.Turns.{inTurn}
-use Rattle.nearest.specs.Search.{entering, childSearch, turnChild, searchOf}
+use Rattle.nearest.specs.Search.{searchEntering, childSearch, turnChild, searchOf}
 use Rattle.nearest.proofs.Laws.Labels.{childLabels, labelled-split}
 use Rattle.nearest.proofs.Laws.Folds.{measured}
 use Rattle.nearest.proofs.Laws.Turns.{xor-below, children-turned, total-children}
@@ -93,11 +94,11 @@ module _ (ws os : List ℕ) (m : Machine) (shows : Shows current m (pair ws os))
     samples-turned = total-children first small (λ k. length (kid k)) ∙ parts-length j xs
 
     -- The first k turns come to that.
-    turns : (k : ℕ) → k ≤ children → Turned k (inTurn (λ i. turn (σ i)) k (entering s))
-    unfolding inTurn total entering children
+    turns : (k : ℕ) → k ≤ children → Turned k (inTurn (λ i. turn (σ i)) k (searchEntering s))
+    unfolding inTurn total searchEntering children
     turns zero l = record { best = refl; entered = omega arith; visited = omega arith }
     turns (suc k) l =
-        let u : Search = inTurn (λ i. turn (σ i)) k (entering s) in
+        let u : Search = inTurn (λ i. turn (σ i)) k (searchEntering s) in
         let w = turns k (omega arith) in
         turn-adds k u (turn (σ k) u) w
         (child-adds ws os m shows c j low xs at s st split ih (σ k) (xor-below first small k l) u
@@ -105,7 +106,7 @@ module _ (ws os : List ℕ) (m : Machine) (shows : Shows current m (pair ws os))
         (omega (arith, w .entered, total-past (λ i. octantsOf b j (kid (σ i))) k children l, octants-turned, st .room)))
 
     -- All of them: the octant's own search.
-    split-agrees : Agreeing (suc j) xs at s (inTurn (λ i. turn (σ i)) children (entering s))
+    split-agrees : Agreeing (suc j) xs at s (inTurn (λ i. turn (σ i)) children (searchEntering s))
     split-agrees =
         let w = turns children (omega arith) in
         record {
@@ -120,10 +121,10 @@ module _ (ws os : List ℕ) (m : Machine) (shows : Shows current m (pair ws os))
 
   -- Whether the octant's own samples are measured, by its row's words and by the samples that it holds.
   ends-is : (j : ℕ) (low : Colour) (xs : List Placed) (at : ℕ) (s : Search) → Standing (suc j) low xs at s
-      → endsAt (suc j) false (octantField current os at Count) (settingIn current ws Bucket) ≡ leb (length xs) b
+      → endsAt (suc j) false (octantField current os at Count) (settingsIn current ws .bucket) ≡ leb (length xs) b
   unfolding endsAt octantWord
   ends-is j low xs at s st =
-      ap₂ (λ (x y : ℕ). leb x y) (held-count os b (suc j) at xs (st .stands .held) (st .stands .some)) (bucket-shown ws os m shows)
+      ap₂ (λ (x y : ℕ). leb x y) (held-count os b (suc j) at xs (st .stands .held) (st .stands .some)) (ap (λ (s : Settings). s .bucket) (settings-shown ws os m shows))
 
   -- An octant of the tree is searched as all its samples in the order are measured.
   pub search-agrees : (j : ℕ) (low : Colour) (xs : List Placed) (at : ℕ) (s : Search) → Standing j low xs at s

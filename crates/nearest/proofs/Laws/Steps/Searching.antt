@@ -17,8 +17,8 @@ use Rattle.colour.specs.Octant.{depths, sideAt, children, childLow, childCube}
 use Rattle.colour.specs.Region.{closest}
 use Rattle.colour.specs.Nearby.{closestChild, gapsOf, closestBy}
 use Rattle.colour.proofs.Laws.Nearby.{closest-by}
-use Rattle.model.specs.Layout.{Bucket, First, Count, Child, current}
-use Rattle.words.specs.Rows.{settingIn, octantField, octantLimit, sampleBudget}
+use Rattle.model.specs.Layout.{First, Count, Child, current, sampleHeader}
+use Rattle.words.specs.Rows.{settingsIn, octantField, octantLimit, sampleBudget}
 use Rattle.traversal.specs.Own.{rowsFrom, ownMost, ownRows, endsAt}
 use Rattle.traversal.proofs.Laws.Rows.{own-few}
 use Rattle.traversal.proofs.Laws.Cubes.{half-is, child-depth}
@@ -27,7 +27,7 @@ use Rattle.nearest.specs.declared.search.Search.{Search}
 use Rattle.nearest.specs.declared.search.Run.{Run}
 use Rattle.nearest.specs.Best.{closer}
 use Rattle.nearest.specs.Turns.{inTurn}
-use Rattle.nearest.specs.Search.{measureRows, entering, ownSearch, reaches, childSearch, turnChild, searchOf, noSearch, searchAll}
+use Rattle.nearest.specs.Search.{measureRows, searchEntering, ownSearch, reaches, childSearch, turnChild, searchOf, noSearch, searchAll}
 use Rattle.nearest.specs.Steps.{Measured, Ready}
 use Rattle.nearest.proofs.Laws.Entered.{turned-off, turned-in}
 use Rattle.nearest.proofs.Laws.Bounds.{reaches-row, entering-sane, turns-sane, child-sane, search-sane, no-search-sane}
@@ -51,7 +51,7 @@ module _ (ws os : List ℕ) (c : Colour) (row : ℕ) (s : Search) (count : ℕ) 
 
 -- Whether the octant in a row is gone through sample by sample, with so many depths left.
 abbrev pub endsHere : List ℕ → List ℕ → ℕ → ℕ → Bool
-endsHere ws os left row = endsAt left false (octantField current os row Count) (settingIn current ws Bucket)
+endsHere ws os left row = endsAt left false (octantField current os row Count) (settingsIn current ws .bucket)
 
 module _ (ws os : List ℕ) (c : Colour) (row : ℕ) (low : Colour) where
   -- The turns of an octant whose children have side 2 ^ j.
@@ -59,19 +59,19 @@ module _ (ws os : List ℕ) (c : Colour) (row : ℕ) (low : Colour) where
   turnAt j m = childSearch os c (searchOf ws os c j) (2 ^ j) row low (turnChild c (2 ^ j) low m)
 
   -- What is searched, by whether the octant is gone through sample by sample.
-  pub search-own : (left : ℕ) (s : Search) → endsHere ws os left row ≡ true → searchOf ws os c left row low s ≡ ownSearch ws os c row (entering s)
+  pub search-own : (left : ℕ) (s : Search) → endsHere ws os left row ≡ true → searchOf ws os c left row low s ≡ ownSearch ws os c row (searchEntering s)
   unfolding searchOf
   search-own zero s e = refl
   search-own (suc j) s e = rw (e, searchOf)
 
   pub search-turns : (left : ℕ) (s : Search) → endsHere ws os left row ≡ false
-      → searchOf ws os c left row low s ≡ inTurn (turnAt (left - 1)) children (entering s)
+      → searchOf ws os c left row low s ≡ inTurn (turnAt (left - 1)) children (searchEntering s)
   unfolding searchOf endsAt
   search-turns zero s e = absurd (true≢false e)
   search-turns (suc j) s e = rw (sub-one, e, searchOf)
 
   -- An octant is entered within the bounds.
-  pub entering-ready : (s : Search) → Ready ws os s → s .entered < octantLimit current os → Ready ws os (entering s)
+  pub entering-ready : (s : Search) → Ready ws os s → s .entered < octantLimit current os → Ready ws os (searchEntering s)
   entering-ready s r h =
       record {
         samples = r .samples;
@@ -176,7 +176,7 @@ module _ (ws os : List ℕ) (c : Colour) (r : ℕ) where
   from-root h = rw (lt-ltb 0 (octantLimit current os) h, searchAll)
 
   -- The root is entered within the bounds.
-  pub starting : 2 ≤ length ws → 1 ≤ length os → octantLimit current os < 4294967296 → 0 < octantLimit current os
+  pub starting : sampleHeader current ≤ length ws → 1 ≤ length os → octantLimit current os < 4294967296 → 0 < octantLimit current os
       → (Ready ws os (noSearch r)) × (noSearch r .entered < octantLimit current os)
   unfolding noSearch
   starting a b l h = (record { samples = a; octants = b; small = l; sane = no-search-sane ws os c r }, h)

@@ -1,5 +1,5 @@
 -- `visit::start`: the limit is the square of the radius.
-use Rattle.nearest.specs.Best.{none}
+use Rattle.nearest.specs.Best.{unfound}
 use Rattle.nearest.specs.Search.{noSearch}
 use borrow.Author.Needs.{needs}
 use Rattle.nearest.proofs.visit.start.Statement.{statement}
@@ -9,7 +9,7 @@ square-requires : tie.Need-square-requires
 square-requires c κs = search needs
 
 returns : tie.Need-returns
-unfolding noSearch none
+unfolding noSearch unfound
 returns c = rw (c .square .ensures)
 
 pub start-spec : {M : Type 1} → statement M

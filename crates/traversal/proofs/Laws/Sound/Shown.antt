@@ -7,16 +7,17 @@ use native.Mathlib.Omega.{arith}
 use lib.ListN.{length}
 use Rattle.colour.specs.Colour.{codesFit}
 use Rattle.colour.specs.declared.Sample.{Sample}
-use Rattle.model.specs.Layout.{Next, Bucket, current, sampleHeader, sampleRows, octantRows}
+use Rattle.colour.specs.declared.Settings.{Settings}
+use Rattle.model.specs.Layout.{Next, current, sampleHeader, sampleRows, octantRows}
 use Rattle.model.specs.Lists.{padded}
 use Rattle.model.specs.Machine.{Machine, tablesOf}
 use Rattle.model.specs.SampleSet.{Placed, placedFrom, placed, order, octants}
 use Rattle.model.specs.Sound.{Shows, codesInRange}
 use Rattle.model.specs.Tables.{Tables, pair, tablesFor, nextRow, sampleWords, octantWords}
-use Rattle.words.specs.Rows.{sampleField, settingIn, countIn, octantLimit, sampleBudget, sampleIn, samplesFrom}
+use Rattle.words.specs.Rows.{sampleField, settingsIn, countIn, octantLimit, sampleBudget, sampleIn, samplesFrom}
 use Rattle.words.proofs.Laws.Layout.Places.{samples-room}
 use Rattle.octree.specs.Steps.{sampleTableBy}
-use Rattle.octree.proofs.Laws.Tables.Check.{sample-length, octant-length, count-shown, bucket-shown, said-samples}
+use Rattle.octree.proofs.Laws.Tables.Check.{sample-length, octant-length, count-shown, settings-shown, said-samples}
 use Rattle.octree.proofs.Laws.Tables.Samples.{held-samples}
 use Rattle.traversal.proofs.Laws.Sound.Each.{All}
 
@@ -41,7 +42,7 @@ module _ (ws os : List ℕ) (m : Machine) (shows : Shows current m (pair ws os))
   n = length (m .set .samples)
 
   in-rows : samplesFrom current ws 0 n ≡ m .set .samples
-  in-rows = said-samples ws os m shows (settingIn current ws Bucket) n refl (count-shown ws os m shows)
+  in-rows = said-samples ws os m shows (settingsIn current ws) n refl (count-shown ws os m shows)
 
   pub said-all : All (Said ws n) (placed (m .set))
   unfolding placed
@@ -66,13 +67,13 @@ module _ (ws os : List ℕ) (m : Machine) (shows : Shows current m (pair ws os))
   budget-shown = omega (arith, count-shown ws os m shows, samples-there)
 
   -- Each next word is that of the order.
-  table-shown : ws ≡ sampleTableBy (length ws) (settingIn current ws Bucket) (order (m .set)) (samplesFrom current ws 0 n)
+  table-shown : ws ≡ sampleTableBy (length ws) (settingsIn current ws) (order (m .set)) (samplesFrom current ws 0 n)
   unfolding tablesOf tablesFor padded sampleWords sampleTableBy placed
   table-shown =
       ap (λ (t : Tables). t .samples) (shows .words)
       ∙ sym
-      (ap₂ (λ (len b : ℕ). sampleTableBy len b (order (m .set)) (samplesFrom current ws 0 n)) (sample-length ws os m shows) (bucket-shown ws os m shows)
-      ∙ ap (sampleTableBy (m .sampleLength) (m .set .settings .bucket) (order (m .set))) in-rows)
+      (ap₂ (λ (len : ℕ) (s : Settings). sampleTableBy len s (order (m .set)) (samplesFrom current ws 0 n)) (sample-length ws os m shows) (settings-shown ws os m shows)
+      ∙ ap (sampleTableBy (m .sampleLength) (m .set .settings) (order (m .set))) in-rows)
 
   pub next-shown : (i : ℕ) → i < n → sampleField current ws i Next ≡ nextRow n i (order (m .set))
   next-shown =

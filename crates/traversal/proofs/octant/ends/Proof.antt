@@ -1,9 +1,10 @@
 -- `octant::ends`: by cases.
 use Prim.Native.Nat.{ℕ, zero, suc, _-_, _≤_}
 use mathlib.Core.Bool.{Bool, true, false}
-use mathlib.Core.Path.{_≡_, refl, sym, ap₂, _∙_}
+use mathlib.Core.Path.{_≡_, refl, sym, ap, ap₂, _∙_}
 use native.Mathlib.Omega.{arith}
 use lib.Dec.{leb}
+use Rattle.colour.specs.declared.Settings.{Settings}
 use Rattle.traversal.specs.Own.{endsAt}
 use borrow.Author.Needs.{needs}
 use Rattle.traversal.proofs.octant.ends.Statement.{statement}
@@ -30,18 +31,18 @@ returns c = rw (c .if1 .taken) (sym (ends-whole _ _ _))
 returns-2 : tie.Need-returns-2
 returns-2 c = sym (ends-last _ _ _ _ (omega (arith, c .if2 .taken)))
 
+settings-requires : tie.Need-settings-requires
+settings-requires c κs = search needs
+
 octant-count-requires : tie.Need-octant-count-requires
 octant-count-requires c κs = search needs
 
-bucket-requires : tie.Need-bucket-requires
-bucket-requires c κs = search needs
-
 returns-3 : tie.Need-returns-3
 returns-3 c =
-    let s = c .before .before .before .before .before .before in
-    let d = c .before .before in
+    let s = c .before .before .before .before .before .before .before in
+    let d = c .before .before .before in
     rw (d .before .if1 .left)
-    (ap₂ leb (c .before .octant-count .ensures) (c .bucket .ensures) ∙ sym (ends-by _ _ _ (omega (arith, d .if2 .left, s .pre .1 .1))))
+    (ap₂ leb (c .before .octant-count .ensures) (ap (λ (x : Settings). x .bucket) (c .before .before .settings .ensures)) ∙ sym (ends-by _ _ _ (omega (arith, d .if2 .left, s .pre .1 .1))))
 
 pub ends-spec : {M : Type 1} → statement M
-ends-spec = tie.close (tie.spec returns returns-2 octant-count-requires bucket-requires returns-3)
+ends-spec = tie.close (tie.spec returns returns-2 settings-requires octant-count-requires returns-3)
