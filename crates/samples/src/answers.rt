@@ -1,30 +1,18 @@
 // What the calls that change a set answer, and the paper's numbers for it.
+use colour::refusal::Refusal;
 ghost use mathlib.Core.Path.{_≡_};
 ghost use Rattle.samples.specs.Answers.{changedNumber, loadedNumber, loadedTaken};
 
-// What became of a clear, an add or a remove: done, or a refusal by the question in whose place it stands, 1 to 8.
+// What became of a clear, an add or a remove: done, or a refusal. A clear refuses by 1 and 3, an add by 1, 2, 4, 5, 6 and 7, a remove by 1, 2 and 8.
 pub enum Changed {
     Done,
-    TooShort,
-    Unsound,
-    NotBucket,
-    NotCodes,
-    KnownTag,
-    NoRow,
-    NoOctants,
-    UnknownTag,
+    Refused(Refusal),
 }
 
-// What became of a load: all lines were taken, or a refusal by 1, 2 or 11, or by 12, 5, 6 or 7 at a line after so many that were taken.
+// What became of a load: all lines were taken, so many; or a refusal, by 1, 2 or 11, or at a line by 12, 5, 6 or 7, after so many lines that were taken.
 pub enum Loaded {
     All(u32),
-    TooShort,
-    Unsound,
-    NotHeader,
-    NotLine(u32),
-    KnownTag(u32),
-    NoRow(u32),
-    NoOctants(u32),
+    Refused(Refusal, u32),
 }
 
 // A load's number, and how many lines were taken.
@@ -39,14 +27,7 @@ pub fn number_of(answer: Changed) -> u32
 {
     match answer {
         Changed::Done => 0,
-        Changed::TooShort => 1,
-        Changed::Unsound => 2,
-        Changed::NotBucket => 3,
-        Changed::NotCodes => 4,
-        Changed::KnownTag => 5,
-        Changed::NoRow => 6,
-        Changed::NoOctants => 7,
-        Changed::UnknownTag => 8,
+        Changed::Refused(refusal) => colour::refusal::number_of(refusal),
     }
 }
 
@@ -57,21 +38,9 @@ pub fn report_of(answer: Loaded) -> Report
 {
     match answer {
         Loaded::All(taken) => Report { number: 0, taken },
-        Loaded::TooShort => Report {
-            number: 1,
-            taken: 0,
+        Loaded::Refused(refusal, taken) => Report {
+            number: colour::refusal::number_of(refusal),
+            taken,
         },
-        Loaded::Unsound => Report {
-            number: 2,
-            taken: 0,
-        },
-        Loaded::NotHeader => Report {
-            number: 11,
-            taken: 0,
-        },
-        Loaded::NotLine(taken) => Report { number: 12, taken },
-        Loaded::KnownTag(taken) => Report { number: 5, taken },
-        Loaded::NoRow(taken) => Report { number: 6, taken },
-        Loaded::NoOctants(taken) => Report { number: 7, taken },
     }
 }

@@ -9,13 +9,14 @@ ghost use mathlib.Core.Path.{_≡_};
 ghost use lib.ListN.{length};
 ghost use Rattle.sheet.specs.Sheet.{lineStart};
 ghost use Rattle.model.specs.Layout.{current, sampleRows};
-ghost use Rattle.words.specs.Rows.{samplesFrom};
+ghost use Rattle.words.specs.Rows.{firstSamples};
 ghost use Rattle.samples.specs.Steps.{withoutRow, LinesPut};
 
 // Moves the samples after a row, of n, one row up, over the one that stands there.
 pub fn close_row(samples: &mut [u32], row: usize, n: usize)
     requires { ⌜ (row < n) × (n ≤ sampleRows current (length (now samples))) ⌝ }
-    ensures { λ _. ⌜ samplesFrom current (now (samples .exit)) 0 (n - 1) ≡ withoutRow row (samplesFrom current (now (samples .entry)) 0 n) ⌝ }
+    ensures { λ _. ⌜ firstSamples current (now (samples .exit)) (n - 1)
+        ≡ withoutRow row (firstSamples current (now (samples .entry)) n) ⌝ }
 {
     let mut i = row + 1;
     while i < n {

@@ -1,15 +1,22 @@
 -- What a call that changes a set meets: question by question, and on sound tables the machine's.
 use Prim.Native.Nat.{ℕ}
-use mathlib.Core.List.{List, []}
+use mathlib.Core.List.{[]}
 use mathlib.Core.Bool.{Bool, true, false, true≢false, false≢true}
 use mathlib.Core.Path.{_≡_, refl, sym, ap, _∙_}
-use Rattle.colour.specs.Question.{Question, firstNo}
+use Rattle.colour.specs.declared.refusal.Refusal.{Refusal}
+use Rattle.colour.specs.Question.{firstNo}
+use Rattle.colour.proofs.Laws.Questions.{refusal-numbered}
 use Rattle.model.specs.Layout.{current}
 use Rattle.model.specs.Tables.{Tables}
-use Rattle.model.specs.Machine.{Machine, Call, Answer, Outcome, plain, tablesOf, unlessRefused, step}
+use Rattle.model.specs.SampleSet.{SampleSet}
+use Rattle.model.specs.Machine.{Machine, Changing, Change, lent, Answer, Outcome, plain, tablesOf, withSet, questions, done, accepted, nextState}
 use Rattle.model.specs.Sound.{Sound, longEnough}
-use Rattle.model.specs.Meets.{Refused, TableMeets, Follows, lent}
+use Rattle.model.specs.Meets.{Refused, TableMeets, Follows}
+use Rattle.model.proofs.Machine.Step.{step-accepted, step-refused}
 use Rattle.octree.proofs.Laws.Tables.Check.{too-short}
+use Rattle.samples.specs.declared.answers.Changed.{Changed}
+use Rattle.samples.specs.declared.answers.Changed.the-variants as C
+use Rattle.samples.specs.Answers.{changedNumber}
 use Rattle.samples.specs.Steps.{FollowsAll}
 
 -- Tables that show a machine are long enough.
@@ -20,9 +27,9 @@ shown-long t s = go (longEnough current t) refl
     go true e = e
     go false e = absurd (false≢true (too-short (t .samples) (t .octants) e .complete s))
 
-module _ (c : Call) (t : Tables) (a : Answer) where
+module _ (c : Changing) (t : Tables) (a : Answer) where
   -- Question 1.
-  pub short-refused : longEnough current t ≡ false → a ≡ plain 1 (lent c) → TableMeets (Refused 2 c t a t) c t a t
+  pub short-refused : longEnough current t ≡ false → a ≡ plain 1 (lent (Change c)) → TableMeets (Refused 2 (Change c) t a t) (Change c) t a t
   short-refused short e =
       record {
         short = λ _. record { answer = e; tables = refl };
@@ -31,7 +38,7 @@ module _ (c : Call) (t : Tables) (a : Answer) where
       }
 
   -- Question 2.
-  pub unsound-refused : longEnough current t ≡ true → (Sound current t → ⊥) → a ≡ plain 2 (lent c) → TableMeets (Refused 2 c t a t) c t a t
+  pub unsound-refused : longEnough current t ≡ true → (Sound current t → ⊥) → a ≡ plain 2 (lent (Change c)) → TableMeets (Refused 2 (Change c) t a t) (Change c) t a t
   unsound-refused long never e =
       record {
         short = λ short. absurd (true≢false (sym long ∙ short));
@@ -40,7 +47,7 @@ module _ (c : Call) (t : Tables) (a : Answer) where
       }
 
   -- On sound tables the answer and the tables are the machine's.
-  pub sound-follows : (t′ : Tables) → Sound current t → FollowsAll c t a t′ → TableMeets (Refused 2 c t a t′) c t a t′
+  pub sound-follows : (t′ : Tables) → Sound current t → FollowsAll c t a t′ → TableMeets (Refused 2 (Change c) t a t′) (Change c) t a t′
   sound-follows t′ s f =
       record {
         short = λ short. absurd (true≢false (sym (shown-long t s) ∙ short));
@@ -48,15 +55,27 @@ module _ (c : Call) (t : Tables) (a : Answer) where
         sound = f;
       }
 
--- A call that answers a number alone: the first no of its questions, and the tables that go with it, are the machine's.
-pub number-follows : (m done : Machine) (c : Call) (qs : List Question) → step m c ≡ unlessRefused (firstNo qs) m done
-    → (k : ℕ) (t′ : Tables) → firstNo qs ≡ k → t′ ≡ tablesOf current (unlessRefused k m done .next) → Follows m c (plain k []) t′
-unfolding unlessRefused
-number-follows m done c qs e k t′ asked told =
-    record {
-      answer = ap (λ (n : ℕ). plain n []) (sym asked) ∙ ap (λ (o : Outcome). o .answer) (sym e);
-      tables =
-          told
-          ∙ ap (λ (n : ℕ). tablesOf current (unlessRefused n m done .next)) (sym asked)
-          ∙ ap (λ (o : Outcome). tablesOf current (o .next)) (sym e);
-    }
+-- A refusal has a number.
+pub changed-refused : (r : Changed) (q : Refusal) → r ≡ C.Refused q → changedNumber r ≡ 0 → ⊥
+changed-refused r q e z = refusal-numbered q (sym (ap changedNumber e) ∙ z)
+
+-- A call that answers a number alone. By the first no of its questions nothing changes; without one the set is the one that acceptance gives.
+module _ (m : Machine) (c : Changing) (t′ : Tables) where
+  pub refused-follows : (k : ℕ) → firstNo (questions m (Change c)) ≡ k → (k ≡ 0 → ⊥) → t′ ≡ tablesOf current m → Follows m (Change c) (plain k []) t′
+  unfolding lent nextState withSet
+  refused-follows k asked ne told =
+      let e = step-refused m (Change c) (λ z. ne (sym asked ∙ z)) in
+      record {
+        answer = ap (λ (n : ℕ). plain n []) (sym asked) ∙ ap (λ (o : Outcome). o .answer) (sym e);
+        tables = told ∙ ap (λ (o : Outcome). tablesOf current (withSet m (o .set))) (sym e);
+      }
+
+  pub accepted-follows : (set : SampleSet) → firstNo (questions m (Change c)) ≡ 0 → accepted m (Change c) ≡ done set
+      → t′ ≡ tablesOf current (withSet m set) → Follows m (Change c) (plain 0 []) t′
+  unfolding done nextState
+  accepted-follows set asked does told =
+      let e = step-accepted m (Change c) asked ∙ does in
+      record {
+        answer = ap (λ (o : Outcome). o .answer) (sym e);
+        tables = told ∙ ap (λ (o : Outcome). tablesOf current (withSet m (o .set))) (sym e);
+      }

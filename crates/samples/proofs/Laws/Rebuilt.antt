@@ -2,14 +2,13 @@
 use Prim.Native.Nat.{ℕ, _≤_, _<_}
 use mathlib.Core.Bool.{Bool, true, false, not, true≢false, and-eq-true-iff}
 use mathlib.Core.List.{List, [], _∷_}
-use mathlib.Core.Option.{some, Option·none-ne-some}
 use mathlib.Core.Path.{_≡_, refl, sym, ap, _∙_, subst}
-use denote.Enum.Declared.{tagOf}
 use native.Mathlib.Omega.{arith}
 use borrow.Author.Tests.{le-leb, leb-true, leb-false, not-true}
 use lib.Dec.{leb}
 use lib.ListN.{length}
 use Rattle.colour.specs.declared.Sample.{Sample}
+use Rattle.colour.specs.declared.Settings.{Settings}
 use Rattle.colour.specs.Octant.{depths}
 use Rattle.colour.specs.Colour.{codesFit}
 use Rattle.colour.specs.Question.{Question, asks, firstNo}
@@ -23,23 +22,22 @@ use Rattle.octree.specs.declared.tables.Fit.the-variants as F
 use Rattle.words.specs.Rows.{samplesFrom, setOf}
 use Rattle.order.specs.Entries.{entriesOf, view}
 use Rattle.octree.specs.Steps.{fitNumber, fitOctants, Judged, Writable}
-use Rattle.octree.proofs.tables.Fit.{the-type}
 use Rattle.octree.proofs.Laws.Tables.Judged.{fits-room, room-fits}
 use Rattle.samples.specs.Rebuilding.{allFit, roomAsked, codesAsked, Rebuilt, Space, Entered}
 use Rattle.samples.specs.Steps.{Acceptable}
 
 -- A question answered with no gives its number, and nothing is written.
-pub no-to : (k : ℕ) (a : Bool) (qs : List Question) (b n : ℕ) (t : Tables) → (k ≡ 0 → ⊥) → a ≡ false → Rebuilt (asks k a ∷ qs) b n t k t
+pub no-to : (k : ℕ) (a : Bool) (qs : List Question) (x : Settings) (n : ℕ) (t : Tables) → (k ≡ 0 → ⊥) → a ≡ false → Rebuilt (asks k a ∷ qs) x n t k t
 unfolding firstNo
-no-to k false qs b n t z e = record { number = refl; refused = λ _. refl; accepted = λ o. absurd (z o) }
-no-to k true qs b n t z e = absurd (true≢false e)
+no-to k false qs x n t z e = record { number = refl; refused = λ _. refl; accepted = λ o. absurd (z o) }
+no-to k true qs x n t z e = absurd (true≢false e)
 
 -- One answered with yes leaves it to those after it.
-pub yes-to : (k : ℕ) (a : Bool) (qs : List Question) (b n : ℕ) (t : Tables) (r : ℕ) (t′ : Tables) → a ≡ true → Rebuilt qs b n t r t′
-    → Rebuilt (asks k a ∷ qs) b n t r t′
+pub yes-to : (k : ℕ) (a : Bool) (qs : List Question) (x : Settings) (n : ℕ) (t : Tables) (r : ℕ) (t′ : Tables) → a ≡ true → Rebuilt qs x n t r t′
+    → Rebuilt (asks k a ∷ qs) x n t r t′
 unfolding firstNo
-yes-to k true qs b n t r t′ e told = record { number = told .number; refused = told .refused; accepted = told .accepted }
-yes-to k false qs b n t r t′ e told = absurd (true≢false (sym e))
+yes-to k true qs x n t r t′ e told = record { number = told .number; refused = told .refused; accepted = told .accepted }
+yes-to k false qs x n t r t′ e told = absurd (true≢false (sym e))
 
 -- Codes in range, as a test.
 fit-in-range : (xs : List Sample) → allFit xs ≡ true → codesInRange xs
@@ -62,64 +60,52 @@ unfit-found xs r e told = go (allFit xs) refl
     go true f = absurd (true≢false (sym (told (fit-in-range xs f)) ∙ e))
     go false f = f
 
--- What judging says, by the case of its answer.
-pub fits-some : (r : Fit) → tagOf the-type r ≡ 0 → (n : ℕ) × (fitOctants r ≡ some n)
-unfolding fitOctants
-fits-some (F.Fits n) e = (n, refl)
-fits-some F.NoRow e = absurd (omega (arith, e))
-fits-some F.NoOctants e = absurd (omega (arith, e))
-
-pub some-fits : (r : Fit) (n : ℕ) → fitOctants r ≡ some n → fitNumber r ≡ 0
-unfolding fitOctants fitNumber
-some-fits (F.Fits n) m e = refl
-some-fits F.NoRow m e = absurd (Option·none-ne-some m e)
-some-fits F.NoOctants m e = absurd (Option·none-ne-some m e)
-
-module _ (b : ℕ) (ws os es : List ℕ) (scratch : ℕ) (h : Entered ws os es scratch) where
+module _ (x : Settings) (ws os es : List ℕ) (scratch : ℕ) (h : Entered ws os es scratch) where
   abbrev t₀ : Tables
   t₀ = pair ws os
 
-  module _ (after : List ℕ) (r : Fit) (told : Judged b es after (length ws) (length os) r) where
+  module _ (after : List ℕ) (r : Fit) (told : Judged (x .bucket) es after (length ws) (length os) r) where
     abbrev room : Bool
-    room = leb (octants (setOf current ws b (length es))) (octantRows current (length os))
+    room = leb (octants (setOf current ws x (length es))) (octantRows current (length os))
 
     -- A list that does not fit gives 7.
-    pub no-room : (fitNumber r ≡ 0 → ⊥) → Rebuilt (roomAsked b (length es) t₀) b (length es) t₀ 7 t₀
+    pub no-room : (fitNumber r ≡ 0 → ⊥) → Rebuilt (roomAsked x (length es) t₀) x (length es) t₀ 7 t₀
     unfolding roomAsked
-    no-room ne = no-to 7 room [] b (length es) t₀ (λ e. omega (arith, e)) (go room refl)
+    no-room ne = no-to 7 room [] x (length es) t₀ (λ e. omega (arith, e)) (go room refl)
       where
         go : (a : Bool) → room ≡ a → room ≡ false
-        go true e = absurd (ne (room-fits b ws es (h .spaced .few) (h .entries) after (length os) r told (leb-true _ _ e)))
+        go true e = absurd (ne (room-fits x ws es (h .spaced .few) (h .entries) after (length os) r told (leb-true _ _ e)))
         go false e = e
 
-    module _ (n : ℕ) (fits : fitOctants r ≡ some n) (as-long : length after ≡ length es) where
-      there-is-room : octants (setOf current ws b (length es)) ≤ octantRows current (length os)
-      there-is-room = fits-room b ws es (h .spaced .few) (h .entries) after (length os) r told (some-fits r n fits)
+    module _ (n : ℕ) (fits : r ≡ F.Fits n) (as-long : length after ≡ length es) where
+      there-is-room : octants (setOf current ws x (length es)) ≤ octantRows current (length os)
+      there-is-room = fits-room x ws es (h .spaced .few) (h .entries) after (length os) r told (ap fitNumber fits)
 
       -- One that fits is written.
-      pub fit-to-write : Writable b ws (length os) after
+      pub fit-to-write : Writable x ws (length os) after
+      unfolding fitOctants
       fit-to-write =
           record {
             sample-words = h .spaced .sample-words;
             octant-words = h .spaced .octant-words;
             few = omega (arith, as-long, h .spaced .few);
             order =
-                told .order n fits
-                ∙ ap (λ (l : List ℕ). orderOf b depths (view l)) (h .entries ∙ ap (λ (m : ℕ). entriesOf (samplesFrom current ws 0 m)) (sym as-long));
-            room = subst (λ (m : ℕ). octants (setOf current ws b m) ≤ octantRows current (length os)) (sym as-long) there-is-room;
+                told .order n (ap fitOctants fits)
+                ∙ ap (λ (l : List ℕ). orderOf (x .bucket) depths (view l)) (h .entries ∙ ap (λ (m : ℕ). entriesOf (samplesFrom current ws 0 m)) (sym as-long));
+            room = subst (λ (m : ℕ). octants (setOf current ws x m) ≤ octantRows current (length os)) (sym as-long) there-is-room;
           }
 
-      pub with-room : (t′ : Tables) → t′ ≡ tablesFor current (setOf current ws b (length after)) (length ws) (length os)
-          → Rebuilt (roomAsked b (length es) t₀) b (length es) t₀ 0 t′
+      pub with-room : (t′ : Tables) → t′ ≡ tablesFor current (setOf current ws x (length after)) (length ws) (length os)
+          → Rebuilt (roomAsked x (length es) t₀) x (length es) t₀ 0 t′
       unfolding roomAsked
       with-room t′ e =
           record {
             number = sym (alone-yes 7 room (le-leb _ _ there-is-room));
             refused = λ z. absurd (z refl);
-            accepted = λ _. e ∙ ap (λ (m : ℕ). tablesFor current (setOf current ws b m) (length ws) (length os)) as-long;
+            accepted = λ _. e ∙ ap (λ (m : ℕ). tablesFor current (setOf current ws x m) (length ws) (length os)) as-long;
           }
 
-module _ (b n : ℕ) (ws os : List ℕ) where
+module _ (x : Settings) (n : ℕ) (ws os : List ℕ) where
   abbrev t₁ : Tables
   t₁ = pair ws os
 
@@ -127,9 +113,9 @@ module _ (b n : ℕ) (ws os : List ℕ) where
   xs = samplesFrom current ws 0 n
 
   -- Question 4.
-  pub no-codes : (r : Bool) → not r ≡ true → (codesInRange xs → r ≡ true) → Rebuilt (codesAsked b n t₁) b n t₁ 4 t₁
+  pub no-codes : (r : Bool) → not r ≡ true → (codesInRange xs → r ≡ true) → Rebuilt (codesAsked x n t₁) x n t₁ 4 t₁
   unfolding codesAsked
-  no-codes r off told = no-to 4 (allFit xs) (roomAsked b n t₁) b n t₁ (λ e. omega (arith, e)) (unfit-found xs r (not-true r off) told)
+  no-codes r off told = no-to 4 (allFit xs) (roomAsked x n t₁) x n t₁ (λ e. omega (arith, e)) (unfit-found xs r (not-true r off) told)
 
   -- Entries that were filled in are those of the rows.
   module _ (es : List ℕ) (as-long : length es ≡ n) (good : codesInRange xs) where
@@ -141,44 +127,44 @@ module _ (b n : ℕ) (ws os : List ℕ) where
           entries = e ∙ ap (λ (m : ℕ). entriesOf (samplesFrom current ws 0 m)) (sym as-long);
         }
 
-    pub with-codes : (r : ℕ) (t′ : Tables) → Rebuilt (roomAsked b (length es) t₁) b (length es) t₁ r t′ → Rebuilt (codesAsked b n t₁) b n t₁ r t′
+    pub with-codes : (r : ℕ) (t′ : Tables) → Rebuilt (roomAsked x (length es) t₁) x (length es) t₁ r t′ → Rebuilt (codesAsked x n t₁) x n t₁ r t′
     unfolding codesAsked
     with-codes r t′ told =
-        yes-to 4 (allFit xs) (roomAsked b n t₁) b n t₁ r t′ (in-range-fit xs good) (subst (λ (m : ℕ). Rebuilt (roomAsked b m t₁) b m t₁ r t′) as-long told)
+        yes-to 4 (allFit xs) (roomAsked x n t₁) x n t₁ r t′ (in-range-fit xs good) (subst (λ (m : ℕ). Rebuilt (roomAsked x m t₁) x m t₁ r t′) as-long told)
 
 -- The same for the places that are lent for n entries, m of them.
-pub rebuilt-lent : (b n m : ℕ) (t : Tables) (r : ℕ) (t′ : Tables) → n ≡ m → Rebuilt (codesAsked b m t) b m t r t′ → Rebuilt (codesAsked b n t) b n t r t′
-rebuilt-lent b n m t r t′ lent told = subst (λ (k : ℕ). Rebuilt (codesAsked b k t) b k t r t′) (sym lent) told
+pub rebuilt-lent : (x : Settings) (n m : ℕ) (t : Tables) (r : ℕ) (t′ : Tables) → n ≡ m → Rebuilt (codesAsked x m t) x m t r t′ → Rebuilt (codesAsked x n t) x n t r t′
+rebuilt-lent x n m t r t′ lent told = subst (λ (k : ℕ). Rebuilt (codesAsked x k t) x k t r t′) (sym lent) told
 
 -- The same for words that are given by an equation.
-pub rebuilt-as : (b n : ℕ) (us ws os : List ℕ) (r : ℕ) (t′ : Tables) → us ≡ ws → Rebuilt (codesAsked b n (pair us os)) b n (pair us os) r t′
-    → Rebuilt (codesAsked b n (pair ws os)) b n (pair ws os) r t′
-rebuilt-as b n us ws os r t′ e told = subst (λ (l : List ℕ). Rebuilt (codesAsked b n (pair l os)) b n (pair l os) r t′) e told
+pub rebuilt-as : (x : Settings) (n : ℕ) (us ws os : List ℕ) (r : ℕ) (t′ : Tables) → us ≡ ws → Rebuilt (codesAsked x n (pair us os)) x n (pair us os) r t′
+    → Rebuilt (codesAsked x n (pair ws os)) x n (pair ws os) r t′
+rebuilt-as x n us ws os r t′ e told = subst (λ (l : List ℕ). Rebuilt (codesAsked x n (pair l os)) x n (pair l os) r t′) e told
 
 -- What a rebuild of rows with codes comes to: their tables where their tree fits, and else 7 with nothing written.
-module _ (b n : ℕ) (ws os : List ℕ) (r : ℕ) (t′ : Tables) (in-range : codesInRange (samplesFrom current ws 0 n))
-    (told : Rebuilt (codesAsked b n (pair ws os)) b n (pair ws os) r t′) where
-  room-asked : r ≡ firstNo (asks 7 (leb (octants (setOf current ws b n)) (octantRows current (length os))) ∷ [])
+module _ (x : Settings) (n : ℕ) (ws os : List ℕ) (r : ℕ) (t′ : Tables) (in-range : codesInRange (samplesFrom current ws 0 n))
+    (told : Rebuilt (codesAsked x n (pair ws os)) x n (pair ws os) r t′) where
+  room-asked : r ≡ firstNo (asks 7 (leb (octants (setOf current ws x n)) (octantRows current (length os))) ∷ [])
   unfolding codesAsked roomAsked
   room-asked = told .number ∙ first-yes 4 _ _ (in-range-fit (samplesFrom current ws 0 n) in-range)
 
-  pub rebuilt-fits : octants (setOf current ws b n) ≤ octantRows current (length os) → r ≡ 0
+  pub rebuilt-fits : octants (setOf current ws x n) ≤ octantRows current (length os) → r ≡ 0
   rebuilt-fits h = room-asked ∙ alone-yes 7 _ (le-leb _ _ h)
 
-  pub rebuilt-room : r ≡ 0 → octants (setOf current ws b n) ≤ octantRows current (length os)
+  pub rebuilt-room : r ≡ 0 → octants (setOf current ws x n) ≤ octantRows current (length os)
   rebuilt-room e = leb-true _ _ (asked 7 _ [] (λ z. omega (arith, z)) (sym room-asked ∙ e) .0)
 
-  pub rebuilt-over : (r ≡ 0 → ⊥) → octantRows current (length os) < octants (setOf current ws b n)
-  rebuilt-over ne = go (leb (octants (setOf current ws b n)) (octantRows current (length os))) refl
+  pub rebuilt-over : (r ≡ 0 → ⊥) → octantRows current (length os) < octants (setOf current ws x n)
+  rebuilt-over ne = go (leb (octants (setOf current ws x n)) (octantRows current (length os))) refl
     where
-      go : (a : Bool) → leb (octants (setOf current ws b n)) (octantRows current (length os)) ≡ a → octantRows current (length os) < octants (setOf current ws b n)
+      go : (a : Bool) → leb (octants (setOf current ws x n)) (octantRows current (length os)) ≡ a → octantRows current (length os) < octants (setOf current ws x n)
       go true e = absurd (ne (rebuilt-fits (leb-true _ _ e)))
       go false e = leb-false _ _ e
 
 -- Rows that are acceptable are rebuilt.
-pub rebuilt-acceptable : (b n : ℕ) (ws os : List ℕ) (r : ℕ) (t′ : Tables) → Acceptable b ws (length os) n
-    → Rebuilt (codesAsked b n (pair ws os)) b n (pair ws os) r t′
-    → (r ≡ 0) × (t′ ≡ tablesFor current (setOf current ws b n) (length ws) (length os))
-rebuilt-acceptable b n ws os r t′ a told =
-    let done = rebuilt-fits b n ws os r t′ (a .in-range) told (a .octants-fit) in
+pub rebuilt-acceptable : (x : Settings) (n : ℕ) (ws os : List ℕ) (r : ℕ) (t′ : Tables) → Acceptable x ws (length os) n
+    → Rebuilt (codesAsked x n (pair ws os)) x n (pair ws os) r t′
+    → (r ≡ 0) × (t′ ≡ tablesFor current (setOf current ws x n) (length ws) (length os))
+rebuilt-acceptable x n ws os r t′ a told =
+    let done = rebuilt-fits x n ws os r t′ (a .in-range) told (a .octants-fit) in
     (done, told .accepted done)

@@ -6,6 +6,8 @@ use mathlib.Core.Path.{_≡_, refl, ap, ap₂}
 use borrow.Author.Tests.{lt-ltb, le-ltb, le-leb, lt-leb}
 use lib.Dec.{leb, ltb}
 use lib.ListN.{length}
+use Rattle.colour.specs.declared.refusal.Refusal.the-variants as R
+use Rattle.colour.specs.Question.{firstNo}
 use Rattle.sheet.specs.declared.line.Line.{Line}
 use Rattle.sheet.specs.Line.{lineOf}
 use Rattle.sheet.specs.Sheet.{linePart, linesFrom}
@@ -13,7 +15,6 @@ use Rattle.model.specs.Layout.{current, sampleRows}
 use Rattle.words.specs.Rows.{samplesFrom}
 use Rattle.words.proofs.Laws.Layout.Samples.{samples-length}
 use Rattle.samples.specs.declared.answers.Loaded.the-variants as L
-use Rattle.samples.specs.Answers.{loadedNumber, loadedTaken}
 use Rattle.samples.specs.Steps.{rowOfTag, stopBy, stopNumber, Stopped}
 use Rattle.samples.proofs.Laws.Tags.{tag-in-rows}
 use Rattle.samples.proofs.Laws.Loaded.Left.{next-left, none-left}
@@ -21,11 +22,11 @@ use Rattle.samples.proofs.Laws.Loaded.Left.{next-left, none-left}
 module _ (n : ℕ) (ws sheet : List ℕ) (lines taken : ℕ) where
   -- The sheet ends, or the line is not good.
   pub at-end : lines ≤ taken → Stopped n ws sheet lines taken (L.All taken)
-  unfolding loadedNumber loadedTaken stopNumber
+  unfolding stopNumber firstNo
   at-end end = record { number = rw (none-left sheet taken lines end); count = refl }
 
-  pub at-bad-line : taken < lines → none ≡ lineOf (linePart sheet taken) → Stopped n ws sheet lines taken (L.NotLine taken)
-  unfolding loadedNumber loadedTaken stopNumber
+  pub at-bad-line : taken < lines → none ≡ lineOf (linePart sheet taken) → Stopped n ws sheet lines taken (L.Refused R.Line taken)
+  unfolding stopNumber firstNo
   at-bad-line more bad = record { number = rw (next-left sheet taken lines more, ← bad); count = refl }
 
   -- At a good line the number is told by the row of its tag and by the rows.
@@ -38,14 +39,14 @@ module _ (n : ℕ) (ws sheet : List ℕ) (lines taken : ℕ) where
         rw (next-left sheet taken lines more, ← good)
         (ap₂ stopBy (tag-in-rows (l .sample .tag) n ws row placed) (ap (leb (sampleRows current (length ws))) (samples-length ws n 0)))
 
-    pub at-known-tag : row < n → Stopped n ws sheet lines taken (L.KnownTag taken)
-    unfolding loadedNumber loadedTaken
+    pub at-known-tag : row < n → Stopped n ws sheet lines taken (L.Refused R.KnownTag taken)
+    unfolding firstNo
     at-known-tag h = record { number = rw (by-rows, lt-ltb row n h); count = refl }
 
-    pub at-no-row : n ≤ row → sampleRows current (length ws) ≤ n → Stopped n ws sheet lines taken (L.NoRow taken)
-    unfolding loadedNumber loadedTaken
+    pub at-no-row : n ≤ row → sampleRows current (length ws) ≤ n → Stopped n ws sheet lines taken (L.Refused R.NoRow taken)
+    unfolding firstNo
     at-no-row new full = record { number = rw (by-rows, le-ltb row n new, le-leb (sampleRows current (length ws)) n full); count = refl }
 
-    pub at-no-octants : n ≤ row → n < sampleRows current (length ws) → Stopped n ws sheet lines taken (L.NoOctants taken)
-    unfolding loadedNumber loadedTaken
+    pub at-no-octants : n ≤ row → n < sampleRows current (length ws) → Stopped n ws sheet lines taken (L.Refused R.NoOctants taken)
+    unfolding firstNo
     at-no-octants new left = record { number = rw (by-rows, le-ltb row n new, lt-leb (sampleRows current (length ws)) n left); count = refl }

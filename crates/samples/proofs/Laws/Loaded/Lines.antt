@@ -15,12 +15,12 @@ use Rattle.colour.specs.Question.{asks, firstNo}
 use Rattle.sheet.specs.declared.line.Line.{Line}
 use Rattle.model.specs.SampleSet.{octants}
 use Rattle.model.specs.Layout.{current, sampleRows, octantRows}
-use Rattle.model.specs.Machine.{Machine, Outcome, hasTag, loadAnswer, withSet, withSamples, added, roomQuestions, fitQuestions, loadLines}
+use Rattle.model.specs.Machine.{Machine, Outcome, hasTag, loadAnswer, withSet, withSamples, added, fitQuestions, newQuestions, lineQuestions, loadLines}
 use Rattle.model.specs.Sound.{distinct}
 use Rattle.model.proofs.Machine.Samples.{snoc-distinct, front-distinct, last-new}
 use Rattle.model.proofs.Machine.Valid.{row-unused}
 use Rattle.model.proofs.Tree.Octants.{octants-grow}
-use Rattle.samples.specs.Steps.{goodSamples, stopBy, stopNumber}
+use Rattle.samples.specs.Steps.{holding, goodSamples, stopBy, stopNumber}
 
 -- The number of a good line that can't be taken is the first no of 5, 6 and 7.
 first-of : (known full fit : Bool) → (known ≡ false → full ≡ false → fit ≡ true → ⊥)
@@ -48,11 +48,11 @@ module _ (m : Machine) where
   -- Samples that are a set, whose octants fit.
   pub record Fits (xs : List Sample) : Type 0 where
     pub tags-distinct : distinct xs
-    pub octants-fit : octants (withSamples m xs .set) ≤ octantRows current (m .octantLength)
+    pub octants-fit : octants (withSamples (m .set) xs) ≤ octantRows current (m .octantLength)
 
   -- So is a front of them.
   front-fits : (xs ys : List Sample) → Fits (xs ++ ys) → Fits xs
-  unfolding withSamples withSet
+  unfolding withSamples
   front-fits xs ys f =
       record {
         tags-distinct = front-distinct xs ys (f .tags-distinct);
@@ -65,17 +65,17 @@ module _ (m : Machine) where
     more = xs ++ (l .sample ∷ [])
 
     abbrev number : ℕ
-    number = firstNo (roomQuestions (withSamples m xs) (l .sample))
+    number = firstNo (lineQuestions (holding m xs) (some l))
 
     accepted : length xs < rows → Fits more → number ≡ 0
-    unfolding roomQuestions fitQuestions firstNo added withSamples withSet
+    unfolding lineQuestions newQuestions fitQuestions firstNo added withSamples withSet
     accepted h f =
         rw (last-new (l .sample) xs (f .tags-distinct), row-unused xs (l .sample) rows, lt-ltb (length xs) rows h, le-leb _ _ (f .octants-fit), firstNo)
 
     -- Where it can't be taken, the number is the one that a load stops with, and not 0.
     refused : (rest : List (Option Line)) → Fits xs → (length xs < rows → Fits more → ⊥)
         → (number ≡ stopNumber xs rows (some l ∷ rest)) × (eqb number 0 ≡ false)
-    unfolding roomQuestions fitQuestions added withSamples withSet stopNumber
+    unfolding lineQuestions newQuestions fitQuestions added withSamples withSet stopNumber firstNo
     refused rest f never =
         rw (row-left xs (l .sample) rows)
         (first-of (hasTag (l .sample .tag) xs) (leb rows (length xs)) _
@@ -85,27 +85,27 @@ module _ (m : Machine) where
 
     -- So a load goes on after it, or ends before it.
     line-taken : (k : ℕ) (rest : List (Option Line)) → length xs < rows → Fits more
-        → loadLines (withSamples m xs) k (some l ∷ rest) ≡ loadLines (withSamples m more) (suc k) rest
+        → loadLines (holding m xs) k (some l ∷ rest) ≡ loadLines (holding m more) (suc k) rest
     unfolding loadLines added withSamples withSet
     line-taken k rest h f = rw (accepted h f, loadLines)
 
     line-stops : (k : ℕ) (rest : List (Option Line)) → Fits xs → (length xs < rows → Fits more → ⊥)
-        → loadLines (withSamples m xs) k (some l ∷ rest)
-        ≡ record { answer = loadAnswer (stopNumber xs rows (some l ∷ rest)) k; next = withSamples m xs }
-    unfolding loadLines
+        → loadLines (holding m xs) k (some l ∷ rest)
+        ≡ record { answer = loadAnswer (stopNumber xs rows (some l ∷ rest)) k; set = withSamples (m .set) xs }
+    unfolding loadLines withSamples withSet
     line-stops k rest f never =
         let r = refused rest f never in
-        rw (r .1, loadLines) (ap (λ (n : ℕ). record { answer = loadAnswer n k; next = withSamples m xs }) (r .0))
+        rw (r .1, loadLines) (ap (λ (n : ℕ). record { answer = loadAnswer n k; set = withSamples (m .set) xs }) (r .0))
 
   -- The outcome of a load that ends with the samples zs, n lines taken, before the lines that are left.
   unfoldable pub ended : List Sample → ℕ → List (Option Line) → Outcome
-  ended zs n left = record { answer = loadAnswer (stopNumber zs rows left) n; next = withSamples m zs }
+  ended zs n left = record { answer = loadAnswer (stopNumber zs rows left) n; set = withSamples (m .set) zs }
 
   -- A load that can't take one line more.
   stops-at-once : (lines : List (Option Line)) (xs : List Sample) (k room : ℕ) → room ≡ rows - length xs → Fits xs
       → ((0 ≡ length (goodSamples room lines) → ⊥) → Fits (xs ++ take 1 (goodSamples room lines)) → ⊥)
-      → loadLines (withSamples m xs) k lines ≡ ended xs k lines
-  unfolding ended loadLines goodSamples stopNumber
+      → loadLines (holding m xs) k lines ≡ ended xs k lines
+  unfolding ended loadLines goodSamples stopNumber firstNo withSamples withSet lineQuestions
   stops-at-once [] xs k room e f never = refl
   stops-at-once (none ∷ rest) xs k room e f never = refl
   stops-at-once (some l ∷ rest) xs k zero e f never = line-stops xs l k rest f (λ h _. omega arith)
@@ -115,7 +115,7 @@ module _ (m : Machine) where
   pub load-stops : (j : ℕ) (lines : List (Option Line)) (xs : List Sample) (k room : ℕ) → room ≡ rows - length xs
       → j ≤ length (goodSamples room lines) → Fits (xs ++ take j (goodSamples room lines))
       → ((j ≡ length (goodSamples room lines) → ⊥) → Fits (xs ++ take (suc j) (goodSamples room lines)) → ⊥)
-      → loadLines (withSamples m xs) k lines ≡ ended (xs ++ take j (goodSamples room lines)) (k + j) (drop j lines)
+      → loadLines (holding m xs) k lines ≡ ended (xs ++ take j (goodSamples room lines)) (k + j) (drop j lines)
   unfolding goodSamples
   load-stops zero lines xs k room e most f never =
       rw (append-nil xs, add-zero k) (stops-at-once lines xs k room e (front-fits xs [] f) never)

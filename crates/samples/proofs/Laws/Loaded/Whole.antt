@@ -1,7 +1,7 @@
 -- Load as a whole. Without a good header nothing changes. With one, lines are put in rows, the longest run of them that is a set
 -- which fits is kept, its tables are built, and the load says why it ends there.
 use Prim.Native.Nat.{ℕ, suc, _+_, _-_, _≤_}
-use mathlib.Core.List.{List, _++_, append-nil}
+use mathlib.Core.List.{List, [], _++_, append-nil}
 use mathlib.Core.Option.{none, some}
 use mathlib.Core.Path.{_≡_, sym, ap, ap₂, _∙_, subst}
 use native.Mathlib.Nat.{zero-add, add-zero, add-suc}
@@ -9,22 +9,28 @@ use native.Mathlib.Omega.{arith}
 use lib.ListN.{length, take}
 use lib.Seq.{take-append-add}
 use Rattle.colour.specs.declared.Sample.{Sample}
+use Rattle.colour.specs.declared.Settings.{Settings}
+use Rattle.colour.specs.declared.refusal.Refusal.the-variants as R
+use Rattle.colour.proofs.Laws.Questions.{first-no, alone-yes}
+use Rattle.sheet.specs.Column.{present}
 use Rattle.sheet.specs.Sheet.{lineStart, lineCount, linesFrom, linesBy, linesOf}
 use Rattle.sheet.proofs.Laws.Ranges.{lines-ranged}
 use Rattle.sheet.proofs.Laws.Reading.Header.{formed}
-use Rattle.model.specs.Layout.{Bucket, current, sampleRows}
+use Rattle.model.specs.Layout.{current, sampleRows}
 use Rattle.model.specs.Tables.{Tables, pair}
-use Rattle.model.specs.Machine.{Machine, Load, Outcome, loadAnswer, withSet, withSamples, load, step, tablesOf}
+use Rattle.model.specs.Machine.{Machine, Change, Load, Outcome, loadAnswer, plain, nearestAnswer, withSet, withSamples, questions, load, accepted, step, nextState, tablesOf}
 use Rattle.model.specs.Sound.{Shows, Sound, distinct}
 use Rattle.model.proofs.Machine.Samples.{front-range, both-range}
-use Rattle.words.specs.Rows.{countIn, settingIn, samplesFrom}
+use Rattle.model.proofs.Machine.Step.{step-accepted}
+use Rattle.words.specs.Rows.{countIn, settingsIn, samplesFrom}
 use Rattle.words.proofs.Laws.Layout.Samples.{samples-length, samples-take}
 use Rattle.octree.proofs.Laws.Tables.Check.{sample-length, count-shown}
 use Rattle.samples.specs.declared.answers.Loaded.{Loaded}
 use Rattle.samples.specs.declared.answers.Loaded.the-variants as L
-use Rattle.samples.specs.Answers.{loadedNumber, loadedTaken, loadedAnswer}
+use Rattle.samples.specs.Answers.{loadedAnswer}
 use Rattle.samples.specs.Rebuilding.{codesAsked, Rebuilt, Space}
 use Rattle.samples.specs.Steps.{FollowsAll, Acceptable, Longest, LinesPut, Stopped, goodSamples, stopNumber}
+use Rattle.samples.proofs.Laws.Meets.{refused-follows}
 use Rattle.samples.proofs.Laws.Rebuilt.{rebuilt-acceptable}
 use Rattle.samples.proofs.Laws.Shown.{said, rows-there, space-for, rows-tables, rows-acceptable, acceptable-octants}
 use Rattle.samples.proofs.Laws.Loaded.Good.{good-few, good-range}
@@ -36,9 +42,10 @@ pub sheet-whole : (sheet : List ℕ) (lines : ℕ) → lineCount sheet ≡ some 
 sheet-whole sheet lines e = omega (arith, formed sheet lines e .whole)
 
 -- Question 11: without one nothing changes.
-pub not-headed : (t : Tables) (sheet : List ℕ) → none ≡ lineCount sheet → FollowsAll (Load sheet) t (loadedAnswer L.NotHeader) t
-unfolding loadedAnswer loadedNumber loadedTaken step load linesOf linesBy
-not-headed t sheet e m shows = record { answer = rw (← e); tables = rw (← e) (shows .words) }
+pub not-headed : (t : Tables) (sheet : List ℕ) → none ≡ lineCount sheet → FollowsAll (Load sheet) t (loadedAnswer (L.Refused R.Header 0)) t
+unfolding loadedAnswer loadAnswer plain nearestAnswer questions linesOf linesBy present
+not-headed t sheet e m shows =
+    refused-follows m (Load sheet) t 11 (first-no 11 (present (linesBy (lineCount sheet) sheet)) [] (rw (← e))) (λ z. omega (arith, z)) (shows .words)
 
 -- Lines put after the first n rows.
 module _ (n : ℕ) (ws sheet : List ℕ) (lines put : ℕ) (ws′ : List ℕ) (told : LinesPut n ws sheet lines put ws′) where
@@ -65,8 +72,8 @@ module _ (n : ℕ) (ws sheet : List ℕ) (lines put : ℕ) (ws′ : List ℕ) (t
   rows-kept =
       ap (samplesFrom current ws′ 0) (sym (add-zero n)) ∙ rows-front 0 (omega arith) ∙ append-nil (samplesFrom current ws 0 n)
 
--- What is known once lines are put on sound tables: b the bucket size, n the count, ws′ the words after.
-module _ (ws os sheet : List ℕ) (lines b n put : ℕ) (ws′ : List ℕ) (bucket : b ≡ settingIn current ws Bucket) (counted : n ≡ countIn ws)
+-- What is known once lines are put on sound tables: x the settings, n the count, ws′ the words after.
+module _ (ws os sheet : List ℕ) (lines : ℕ) (x : Settings) (n put : ℕ) (ws′ : List ℕ) (settings : x ≡ settingsIn current ws) (counted : n ≡ countIn ws)
     (told : LinesPut n ws sheet lines put ws′) where
   -- The good lines that find a row.
   abbrev lines-good : List Sample
@@ -81,11 +88,11 @@ module _ (ws os sheet : List ℕ) (lines b n put : ℕ) (ws′ : List ℕ) (buck
     these = said ws os n counted m shows
 
     -- The rows that stood there are acceptable still.
-    still-acceptable : Acceptable b ws′ (length os) n
+    still-acceptable : Acceptable x ws′ (length os) n
     unfolding withSamples withSet
     still-acceptable =
         let v = shows .valid in
-        rows-acceptable ws os m shows b bucket ws′ n (m .set .samples) (rows-kept n ws sheet lines put ws′ told ∙ these)
+        rows-acceptable ws os m shows x settings ws′ n (m .set .samples) (rows-kept n ws sheet lines put ws′ told ∙ these)
         (v .tags-distinct) (v .in-range) (v .octants-fit)
 
     -- The rows say the machine's samples and j more.
@@ -93,30 +100,31 @@ module _ (ws os sheet : List ℕ) (lines b n put : ℕ) (ws′ : List ℕ) (buck
     more-said j h = rows-front n ws sheet lines put ws′ told j h ∙ ap (λ (l : List Sample). l ++ take j lines-good) these
 
     -- They are acceptable exactly where those samples are a set which fits.
-    more-fit : (j : ℕ) → j ≤ put → Acceptable b ws′ (length os) (n + j) → Fits m (with-more j)
+    more-fit : (j : ℕ) → j ≤ put → Acceptable x ws′ (length os) (n + j) → Fits m (with-more j)
     more-fit j h a =
         record {
           tags-distinct = subst distinct (more-said j h) (a .tags-distinct);
-          octants-fit = acceptable-octants ws os m shows b bucket ws′ (n + j) (with-more j) (more-said j h) a;
+          octants-fit = acceptable-octants ws os m shows x settings ws′ (n + j) (with-more j) (more-said j h) a;
         }
 
-    fit-more : (j : ℕ) → j ≤ put → Fits m (with-more j) → Acceptable b ws′ (length os) (n + j)
+    fit-more : (j : ℕ) → j ≤ put → Fits m (with-more j) → Acceptable x ws′ (length os) (n + j)
     fit-more j h f =
-        rows-acceptable ws os m shows b bucket ws′ (n + j) (with-more j) (more-said j h) (f .tags-distinct)
+        rows-acceptable ws os m shows x settings ws′ (n + j) (with-more j) (more-said j h) (f .tags-distinct)
         (both-range (m .set .samples) (take j lines-good) (shows .valid .in-range)
         (front-range j lines-good (good-range (sampleRows current (length ws) - n) (linesFrom sheet 0 lines) (lines-ranged sheet 0 lines))))
         (f .octants-fit)
 
     -- So the machine takes as many lines as are acceptable.
-    machine-takes : lineCount sheet ≡ some lines → (j : ℕ) → j ≤ put → Acceptable b ws′ (length os) (n + j)
-        → ((j ≡ put → ⊥) → Acceptable b ws′ (length os) (n + suc j) → ⊥)
-        → step m (Load sheet) ≡ ended m (with-more j) j (linesFrom sheet j (lines - j))
-    unfolding step load linesOf linesBy withSamples withSet
+    machine-takes : lineCount sheet ≡ some lines → (j : ℕ) → j ≤ put → Acceptable x ws′ (length os) (n + j)
+        → ((j ≡ put → ⊥) → Acceptable x ws′ (length os) (n + suc j) → ⊥)
+        → step m (Change (Load sheet)) ≡ ended m (with-more j) j (linesFrom sheet j (lines - j))
+    unfolding questions accepted load linesOf linesBy present withSamples withSet
     machine-takes header j h a never =
         let room : sampleRows current (length ws) - n ≡ sampleRows current (m .sampleLength) - length (m .set .samples) =
         ap₂ (λ (l k : ℕ). sampleRows current l - k) (sample-length ws os m shows) (counted ∙ count-shown ws os m shows) in
         let few : j ≤ lines = omega (arith, h, put-most n ws sheet lines put ws′ told) in
-        rw header
+        step-accepted m (Change (Load sheet)) (alone-yes 11 (present (linesBy (lineCount sheet) sheet)) (rw header))
+        ∙ rw header
         (load-stops m j (linesFrom sheet 0 lines) (m .set .samples) 0 (sampleRows current (length ws) - n) room (omega (arith, h, told .many)) (more-fit j h a)
         (λ ne f. never (λ z. ne (z ∙ told .many)) (fit-more (suc j) (omega (arith, h, ne, told .many)) f))
         ∙ ap₂ (ended m (with-more j)) (zero-add j) (lines-after sheet j 0 lines few ∙ ap (λ (k : ℕ). linesFrom sheet k (lines - j)) (zero-add j)))
@@ -131,10 +139,10 @@ module _ (ws os sheet : List ℕ) (lines b n put : ℕ) (ws′ : List ℕ) (buck
       high-there =
           omega (arith, put-rows n ws sheet lines put ws′ told (rows-there ws os sound n counted), ap (sampleRows current) long)
 
-      pub asks-longest : (n ≤ n + put) × (n + put ≤ sampleRows current (length ws′)) × Acceptable b ws′ (length os) n
+      pub asks-longest : (n ≤ n + put) × (n + put ≤ sampleRows current (length ws′)) × Acceptable x ws′ (length os) n
       asks-longest = (omega arith, high-there, still-acceptable m₀ (sound .shows))
 
-      module _ (kept : ℕ) (best : Longest b ws′ (length os) n (n + put) kept) where
+      module _ (kept : ℕ) (best : Longest x ws′ (length os) n (n + put) kept) where
         pub asks-stopped : (kept ≤ sampleRows current (length ws′)) × (kept - n ≤ kept) × (kept - n ≤ lines) × (lineStart lines ≤ length sheet)
         asks-stopped = (
           omega (arith, high-there, best .most),
@@ -148,18 +156,18 @@ module _ (ws os sheet : List ℕ) (lines b n put : ℕ) (ws′ : List ℕ) (buck
 
     -- A load that keeps the first rows that are acceptable, and says why it ends there, is the machine's.
     pub loads : (kept : ℕ) (r : Loaded) (number : ℕ) (t′ : Tables)
-        → Longest b ws′ (length os) n (n + put) kept → Stopped kept ws′ sheet lines (kept - n) r
-        → Rebuilt (codesAsked b kept (pair ws′ os)) b kept (pair ws′ os) number t′ → FollowsAll (Load sheet) (pair ws os) (loadedAnswer r) t′
-    unfolding loadedAnswer ended
+        → Longest x ws′ (length os) n (n + put) kept → Stopped kept ws′ sheet lines (kept - n) r
+        → Rebuilt (codesAsked x kept (pair ws′ os)) x kept (pair ws′ os) number t′ → FollowsAll (Load sheet) (pair ws os) (loadedAnswer r) t′
+    unfolding loadedAnswer ended nextState
     loads kept r number t′ best stopped rebuilt m shows =
         let j : ℕ = kept - n in
         let all : n + j ≡ kept = omega (arith, best .least) in
         let few : j ≤ put = omega (arith, best .most) in
         let zs : List Sample = with-more m shows j in
         let e : samplesFrom current ws′ 0 kept ≡ zs = ap (samplesFrom current ws′ 0) (sym all) ∙ more-said m shows j few in
-        let takes : step m (Load sheet) ≡ ended m zs j (linesFrom sheet j (lines - j)) =
-        machine-takes m shows header j few (subst (Acceptable b ws′ (length os)) (sym all) (best .accepted))
-        (λ ne a. best .ends (λ z. ne (omega (arith, all, z))) (subst (Acceptable b ws′ (length os)) (add-suc n j ∙ ap suc all) a)) in
+        let takes : step m (Change (Load sheet)) ≡ ended m zs j (linesFrom sheet j (lines - j)) =
+        machine-takes m shows header j few (subst (Acceptable x ws′ (length os)) (sym all) (best .accepted))
+        (λ ne a. best .ends (λ z. ne (omega (arith, all, z))) (subst (Acceptable x ws′ (length os)) (add-suc n j ∙ ap suc all) a)) in
         record {
           answer =
               ap₂ loadAnswer
@@ -168,7 +176,7 @@ module _ (ws os sheet : List ℕ) (lines b n put : ℕ) (ws′ : List ℕ) (buck
               (stopped .count)
               ∙ ap (λ (o : Outcome). o .answer) (sym takes);
           tables =
-              rebuilt-acceptable b kept ws′ os number t′ (best .accepted) rebuilt .1
-              ∙ rows-tables ws os m shows b bucket ws′ kept zs e long
-              ∙ ap (λ (o : Outcome). tablesOf current (o .next)) (sym takes);
+              rebuilt-acceptable x kept ws′ os number t′ (best .accepted) rebuilt .1
+              ∙ rows-tables ws os m shows x settings ws′ kept zs e long
+              ∙ ap (λ (o : Outcome). tablesOf current (withSet m (o .set))) (sym takes);
         }

@@ -4,8 +4,9 @@ use mathlib.Core.Path.{refl, sym, _∙_}
 use borrow.Author.Needs.{needs}
 use borrow.Author.Tests.{not-true, not-false}
 use Rattle.model.specs.Sound.{longEnough}
-use Rattle.model.specs.Meets.{Meets, lent}
-use Rattle.samples.specs.Answers.{changedNumber, changedAnswer}
+use Rattle.model.specs.Machine.{lent}
+use Rattle.model.specs.Meets.{Meets}
+use Rattle.samples.specs.Answers.{changedAnswer}
 use Rattle.samples.proofs.Laws.Added.{codes-refused}
 use Rattle.samples.proofs.Laws.Meets.{short-refused, unsound-refused, sound-follows}
 use Rattle.samples.proofs.add.add.Statement.{statement}
@@ -15,7 +16,7 @@ long-enough-requires : tie.Need-long-enough-requires
 long-enough-requires c κs = search needs
 
 returns : tie.Need-returns
-unfolding Meets lent changedAnswer changedNumber longEnough
+unfolding Meets lent changedAnswer longEnough
 returns c = short-refused _ _ _ (sym (c .before .long-enough .ensures) ∙ not-true _ (c .if1 .taken)) refl
 
 check-requires : tie.Need-check-requires
@@ -28,7 +29,7 @@ same-length-2 : tie.Need-same-length-2
 same-length-2 c = search needs
 
 returns-2 : tie.Need-returns-2
-unfolding Meets lent changedAnswer changedNumber longEnough
+unfolding Meets lent changedAnswer longEnough
 returns-2 c =
     let d = c .before .before .before .before in
     unsound-refused _ _ _ (sym (d .before .long-enough .ensures) ∙ not-false _ (d .if1 .left))

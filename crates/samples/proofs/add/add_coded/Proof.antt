@@ -2,13 +2,14 @@
 use native.Mathlib.Omega.{arith}
 use borrow.Author.Needs.{needs}
 use borrow.Author.Tests.{ltb-true, ltb-false, leb-true, leb-false}
+use Rattle.model.proofs.Tables.Numbers.{current-numbers}
 use Rattle.samples.proofs.Laws.Added.{tag-refused, row-refused, now-adding}
 use Rattle.samples.proofs.Laws.Shown.{headers-there, rows-there}
 use Rattle.samples.proofs.add.add_coded.Statement.{statement}
 use Rattle.samples.proofs.add.add_coded.Tie as tie
 
 count-requires : tie.Need-count-requires
-count-requires c κs = omega (arith, headers-there _ _ (c .before .before .before .pre .0) .0)
+count-requires c κs = omega (arith, current-numbers .sample-header, headers-there _ _ (c .before .before .before .pre .0) .0)
 
 cast-n : tie.Need-cast-n
 cast-n c = search needs

@@ -3,9 +3,9 @@ use borrow.Author.Needs.{needs}
 use mathlib.Core.Path.{sym, _∙_}
 use Rattle.model.specs.Sound.{longEnough}
 use Rattle.model.specs.Meets.{Meets}
-use Rattle.samples.specs.Answers.{changedNumber, changedAnswer}
+use Rattle.samples.specs.Answers.{changedAnswer}
 use borrow.Author.Tests.{not-true, not-false}
-use Rattle.samples.proofs.Laws.Cleared.{refused-short, refused-bucket, accepted, empty-writable}
+use Rattle.samples.proofs.Laws.Cleared.{refused-short, refused-settings, accepted, empty-writable}
 use Rattle.samples.proofs.clear.clear.Statement.{statement}
 use Rattle.samples.proofs.clear.clear.Tie as tie
 
@@ -13,18 +13,18 @@ long-enough-requires : tie.Need-long-enough-requires
 long-enough-requires c κs = search needs
 
 returns : tie.Need-returns
-unfolding Meets changedAnswer changedNumber longEnough
+unfolding Meets changedAnswer longEnough
 returns c = refused-short _ _ _ (sym (c .before .long-enough .ensures) ∙ not-true _ (c .if1 .taken))
 
-bucket-fits-requires : tie.Need-bucket-fits-requires
-bucket-fits-requires c κs = search needs
+settings-fit-requires : tie.Need-settings-fit-requires
+settings-fit-requires c κs = search needs
 
 returns-2 : tie.Need-returns-2
-unfolding Meets changedAnswer changedNumber longEnough
+unfolding Meets changedAnswer longEnough
 returns-2 c =
-    refused-bucket _ _ _
+    refused-settings _ _ _
     (sym (c .before .before .before .long-enough .ensures) ∙ not-false _ (c .before .before .if1 .left))
-    (sym (c .before .bucket-fits .ensures) ∙ not-true _ (c .if2 .taken))
+    (sym (c .before .settings-fit .ensures) ∙ not-true _ (c .if2 .taken))
 
 array-share-prefix-none : tie.Need-array-share-prefix-none
 array-share-prefix-none c = search needs
@@ -46,13 +46,13 @@ same-length-2 : tie.Need-same-length-2
 same-length-2 c = search needs
 
 returns-3 : tie.Need-returns-3
-unfolding Meets changedAnswer changedNumber longEnough
+unfolding Meets changedAnswer longEnough
 returns-3 c =
     let d = c .before .before .before .before in
     let e = d .before .before .before .before in
     accepted _ _ _ _
     (sym (e .before .before .before .long-enough .ensures) ∙ not-false _ (e .before .before .if1 .left))
-    (sym (e .before .bucket-fits .ensures) ∙ not-false _ (e .if2 .left))
+    (sym (e .before .settings-fit .ensures) ∙ not-false _ (e .if2 .left))
     (d .write .ensures)
 
 pub clear-spec : {M : Type 1} → statement M
@@ -61,7 +61,7 @@ clear-spec =
     (tie.spec
     long-enough-requires
     returns
-    bucket-fits-requires
+    settings-fit-requires
     returns-2
     array-share-prefix-none
     slice-aggregate-write

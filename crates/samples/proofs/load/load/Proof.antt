@@ -5,10 +5,10 @@ use borrow.Author.Needs.{needs}
 use borrow.Author.Tests.{not-true, not-false}
 use Rattle.sheet.specs.Answers.{headerAnswer}
 use Rattle.sheet.proofs.Laws.Reading.Lookup.{header-says}
-use Rattle.model.specs.Machine.{loadAnswer, nearestAnswer, plain}
+use Rattle.model.specs.Machine.{lent, loadAnswer, nearestAnswer, plain}
 use Rattle.model.specs.Sound.{longEnough}
-use Rattle.model.specs.Meets.{Meets, lent}
-use Rattle.samples.specs.Answers.{loadedNumber, loadedTaken, loadedAnswer}
+use Rattle.model.specs.Meets.{Meets}
+use Rattle.samples.specs.Answers.{loadedAnswer}
 use Rattle.samples.proofs.Laws.Meets.{short-refused, unsound-refused, sound-follows}
 use Rattle.samples.proofs.Laws.Loaded.Whole.{not-headed}
 use Rattle.samples.proofs.load.load.Statement.{statement}
@@ -18,7 +18,7 @@ long-enough-requires : tie.Need-long-enough-requires
 long-enough-requires c κs = search needs
 
 returns : tie.Need-returns
-unfolding Meets lent loadedAnswer loadedNumber loadedTaken loadAnswer nearestAnswer plain longEnough
+unfolding Meets lent loadedAnswer loadAnswer nearestAnswer plain longEnough
 returns c = short-refused _ _ _ (sym (c .before .long-enough .ensures) ∙ not-true _ (c .if1 .taken)) refl
 
 check-requires : tie.Need-check-requires
@@ -31,7 +31,7 @@ same-length-2 : tie.Need-same-length-2
 same-length-2 c = search needs
 
 returns-2 : tie.Need-returns-2
-unfolding Meets lent loadedAnswer loadedNumber loadedTaken loadAnswer nearestAnswer plain longEnough
+unfolding Meets lent loadedAnswer loadAnswer nearestAnswer plain longEnough
 returns-2 c =
     let d = c .before .before .before .before in
     unsound-refused _ _ _ (sym (d .before .long-enough .ensures) ∙ not-false _ (d .if1 .left))

@@ -8,10 +8,10 @@ use Rattle.samples.proofs.load.longest.Statement.{statement}
 use Rattle.samples.proofs.load.longest.Tie as tie
 
 abbrev Inv-loop : tie.InvT-loop
-Inv-loop samples octants bucket low high good₀ bad₀ good bad = Between bucket samples octants low high good bad
+Inv-loop samples octants settings low high good₀ bad₀ good bad = Between settings samples octants low high good bad
 
 abbrev μ-loop : tie.MeasureT-loop
-μ-loop samples octants bucket low high good₀ bad₀ good bad = bad - good
+μ-loop samples octants settings low high good₀ bad₀ good bad = bad - good
 
 acceptable-requires : tie.Need-acceptable-requires Inv-loop μ-loop
 acceptable-requires c κs = c .before .pre .1

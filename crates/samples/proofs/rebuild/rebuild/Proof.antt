@@ -34,7 +34,7 @@ returns : tie.Need-returns
 returns c =
     let w = c .before .before .before .before .before .before in
     let s = w .before .before .before .before .before .before .before in
-    rebuilt-lent (s .args .bucket) (s .args .n) _ (pair (s .args .samples .now) (s .args .octants .now)) _ _ (places-first (s .args .n) (s .pre .space))
+    rebuilt-lent (s .args .settings) (s .args .n) _ (pair (s .args .samples .now) (s .args .octants .now)) _ _ (places-first (s .args .n) (s .pre .space))
     (w .rebuild-rows .ensures)
 
 pub rebuild-spec : {M : Type 1} → statement M

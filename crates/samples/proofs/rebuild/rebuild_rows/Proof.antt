@@ -18,14 +18,14 @@ returns : tie.Need-returns
 returns c =
     let s = c .before .before .before .before .before .before .before .before .before .before in
     let f = c .before .before .before .fill in
-    no-codes _ _ (s .args .samples .now) (s .args .octants .now) (f .result) (c .if1 .taken) (f .ensures .1 .1)
+    no-codes _ _ (s .args .samples .now) (s .args .octants .now) (f .result) (c .if1 .taken) (f .ensures .complete)
 
 write-fitting-requires : tie.Need-write-fitting-requires
 write-fitting-requires c κs =
     let s = c .before .before .before .before .before .before .before .before .before .before .before .before .before .before in
     let f = c .before .before .before .before .before .before .before .fill in
     let y = not-false _ (c .before .before .before .before .if1 .left) in
-    entered (s .args .bucket) _ (s .args .samples .now) (s .args .octants .now) _ (f .kept .1 .0) (f .ensures .0 y) _ (s .pre) (f .ensures .1 .0 y)
+    entered (s .args .settings) _ (s .args .samples .now) (s .args .octants .now) _ (f .kept .1 .0) (f .ensures .in-range y) _ (s .pre) (f .ensures .entries y)
 
 same-length-3 : tie.Need-same-length-3
 same-length-3 c = search needs
@@ -44,7 +44,7 @@ returns-2 c =
     let s = c .before .before .before .before .before .before .before .before .before .before .before .before .before .before .before .before .before .before .before .before .before .before .before in
     let f = c .before .before .before .before .before .before .before .before .before .before .before .before .before .before .before .before .fill in
     let w = c .before .before .before .before .before .before .before .before .write-fitting in
-    with-codes _ _ (s .args .samples .now) (s .args .octants .now) (f .last .1 .0) (f .kept .1 .0) (f .ensures .0 (not-false _ (c .before .before .before .before .before .before .before .before .before .before .before .before .before .if1 .left))) _ _ (w .ensures)
+    with-codes _ _ (s .args .samples .now) (s .args .octants .now) (f .last .1 .0) (f .kept .1 .0) (f .ensures .in-range (not-false _ (c .before .before .before .before .before .before .before .before .before .before .before .before .before .if1 .left))) _ _ (w .ensures)
 
 pub rebuild-rows-spec : {M : Type 1} → statement M
 rebuild-rows-spec =

@@ -1,12 +1,13 @@
 -- `rebuild::rows_accepted`: tags, codes, then octants.
+use mathlib.Core.Path.{ap}
 use native.Mathlib.Omega.{arith}
 use lib.ListN.{length}
 use borrow.Author.Needs.{needs}
 use borrow.Author.Tests.{not-false}
 use Rattle.words.proofs.Laws.Layout.Places.{rows-few}
+use Rattle.octree.specs.Steps.{fitNumber}
 use Rattle.octree.proofs.Laws.Tables.Judged.{unfit}
 use Rattle.samples.proofs.Laws.Accepted.{tag-twice, code-out, octants-over, all-accepted}
-use Rattle.samples.proofs.Laws.Rebuilt.{fits-some, some-fits}
 use Rattle.samples.proofs.rebuild.rows_accepted.Statement.{statement}
 use Rattle.samples.proofs.rebuild.rows_accepted.Tie as tie
 
@@ -39,7 +40,7 @@ returns-2 c =
     let f = c .before .before .before in
     let a = f .before .before .before .before .before .before .before in
     let s = a .before .before .before .before .before .before in
-    code-out _ _ (s .args .octants) _ _ (a .all-apart .kept .1 .0) (f .fill .result) (c .if2 .taken) (f .fill .ensures .1 .1)
+    code-out _ _ (s .args .octants) _ _ (a .all-apart .kept .1 .0) (f .fill .result) (c .if2 .taken) (f .fill .ensures .complete)
 
 judge-requires : tie.Need-judge-requires
 judge-requires c κs =
@@ -53,6 +54,9 @@ judge-requires c κs =
 enum-told : tie.Need-enum-told
 enum-told c = search needs
 
+enum-told-2 : tie.Need-enum-told-2
+enum-told-2 c = search needs
+
 same-length-5 : tie.Need-same-length-5
 same-length-5 c = search needs
 
@@ -61,13 +65,13 @@ same-length-6 c = search needs
 
 returns-3 : tie.Need-returns-3
 returns-3 c =
-    let j = c .before .before .before .before .before in
+    let j = c .before .before .before .before .before .before in
     let f = j .before .before .before .before .before .before in
     let a = f .before .before .before .before .before .before .before in
     let s = a .before .before .before .before .before .before in
-    let filled = f .fill .ensures .1 .0 (not-false _ (j .before .before .before .if2 .left)) in
+    let filled = f .fill .ensures .entries (not-false _ (j .before .before .before .if2 .left)) in
     octants-over _ _ (s .args .octants) _ _ (a .all-apart .kept .1 .0) (f .fill .last .1 .0) _ (f .fill .kept .1 .0) (s .pre .0) filled
-    (j .judge .result) (j .judge .ensures) (unfit (j .judge .result) (c .match .keys2))
+    (j .judge .result) (j .judge .ensures) (unfit (j .judge .result) _ (c .enum-told2 .given .1))
 
 same-length-7 : tie.Need-same-length-7
 same-length-7 c = search needs
@@ -84,11 +88,10 @@ returns-4 c =
     let a = k .before .before .before .before .before in
     let s = a .before .before .before .before .before .before in
     let apart = a .all-apart .ensures .0 (not-false _ (k .if1 .left)) in
-    let in-range = f .fill .ensures .0 (not-false _ (i .if2 .left)) in
-    let filled = f .fill .ensures .1 .0 (not-false _ (i .if2 .left)) in
-    let fits = fits-some (j .judge .result) (c .before .match .keys1) in
+    let in-range = f .fill .ensures .in-range (not-false _ (i .if2 .left)) in
+    let filled = f .fill .ensures .entries (not-false _ (i .if2 .left)) in
     all-accepted _ _ (s .args .octants) _ _ (a .all-apart .kept .1 .0) (f .fill .last .1 .0) _ (f .fill .kept .1 .0) (s .pre .0) filled
-    (j .judge .result) (j .judge .ensures) apart in-range (some-fits (j .judge .result) (fits .0) (fits .1))
+    (j .judge .result) (j .judge .ensures) apart in-range (ap fitNumber (c .enum-told .given .1))
 
 pub rows-accepted-spec : {M : Type 1} → statement M
 rows-accepted-spec =
@@ -104,6 +107,7 @@ rows-accepted-spec =
     returns-2
     judge-requires
     enum-told
+    enum-told-2
     same-length-5
     same-length-6
     returns-3

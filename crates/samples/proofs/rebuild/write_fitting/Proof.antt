@@ -4,7 +4,7 @@ use native.Mathlib.Omega.{arith}
 use lib.ListN.{length}
 use Rattle.words.proofs.Laws.Layout.Places.{rows-few}
 use Rattle.octree.proofs.Laws.Tables.Judged.{unfit}
-use Rattle.samples.proofs.Laws.Rebuilt.{no-room, fits-some, fit-to-write, with-room}
+use Rattle.samples.proofs.Laws.Rebuilt.{no-room, fit-to-write, with-room}
 use Rattle.samples.proofs.rebuild.write_fitting.Statement.{statement}
 use Rattle.samples.proofs.rebuild.write_fitting.Tie as tie
 
@@ -16,6 +16,9 @@ judge-requires c κs =
 enum-told : tie.Need-enum-told
 enum-told c = search needs
 
+enum-told-2 : tie.Need-enum-told-2
+enum-told-2 c = search needs
+
 same-length : tie.Need-same-length
 same-length c = search needs
 
@@ -24,16 +27,15 @@ same-length-2 c = search needs
 
 returns : tie.Need-returns
 returns c =
-    let s = c .before .before .before .before .before .before .before .before .before .before .before .before in
-    let j = c .before .before .before .before .before .judge in
-    no-room _ (s .args .samples .now) (s .args .octants .now) (s .args .entries .now) _ (s .pre) _ (j .result) (j .ensures) (unfit (j .result) (c .match .keys2))
+    let s = c .before .before .before .before .before .before .before .before .before .before .before .before .before in
+    let j = c .before .before .before .before .before .before .judge in
+    no-room _ (s .args .samples .now) (s .args .octants .now) (s .args .entries .now) _ (s .pre) _ (j .result) (j .ensures) (unfit (j .result) _ (c .enum-told2 .given .1))
 
 write-requires : tie.Need-write-requires
 write-requires c κs =
     let s = c .before .before .before .before .before .before .before .before .before .before .before .before .before .before .before .before in
     let j = c .before .before .before .before .before .before .before .before .before .judge in
-    let f = fits-some (j .result) (c .before .before .before .before .match .keys1) in
-    fit-to-write _ (s .args .samples .now) (s .args .octants .now) (s .args .entries .now) _ (s .pre) _ (j .result) (j .ensures) (f .0) (f .1) (j .kept .0)
+    fit-to-write _ (s .args .samples .now) (s .args .octants .now) (s .args .entries .now) _ (s .pre) _ (j .result) (j .ensures) _ (c .before .before .before .enum-told .given .1) (j .kept .0)
 
 same-length-3 : tie.Need-same-length-3
 same-length-3 c = search needs
@@ -51,8 +53,7 @@ returns-2 : tie.Need-returns-2
 returns-2 c =
     let s = c .before .before .before .before .before .before .before .before .before .before .before .before .before .before .before .before .before .before .before .before .before in
     let j = c .before .before .before .before .before .before .before .before .before .before .before .before .before .before .judge in
-    let f = fits-some (j .result) (c .before .before .before .before .before .before .before .before .before .match .keys1) in
-    with-room _ (s .args .samples .now) (s .args .octants .now) (s .args .entries .now) _ (s .pre) _ (j .result) (j .ensures) (f .0) (f .1) (j .kept .0) _ (c .before .before .before .before .write .ensures)
+    with-room _ (s .args .samples .now) (s .args .octants .now) (s .args .entries .now) _ (s .pre) _ (j .result) (j .ensures) _ (c .before .before .before .before .before .before .before .before .enum-told .given .1) (j .kept .0) _ (c .before .before .before .before .write .ensures)
 
 pub write-fitting-spec : {M : Type 1} → statement M
 write-fitting-spec =
@@ -60,6 +61,7 @@ write-fitting-spec =
     (tie.spec
     judge-requires
     enum-told
+    enum-told-2
     same-length
     same-length-2
     returns

@@ -1,16 +1,17 @@
 -- `remove::remove_sound`: the row of the tag closed, then both tables rebuilt.
 use native.Mathlib.Omega.{arith}
 use borrow.Author.Needs.{needs}
+use Rattle.model.proofs.Tables.Numbers.{current-numbers}
 use Rattle.samples.proofs.Laws.Removed.{unknown-tag, tag-removed}
 use Rattle.samples.proofs.Laws.Shown.{headers-there, rows-there, space-for}
 use Rattle.samples.proofs.remove.remove_sound.Statement.{statement}
 use Rattle.samples.proofs.remove.remove_sound.Tie as tie
 
-bucket-requires : tie.Need-bucket-requires
-bucket-requires c κs = headers-there _ _ (c .before .before .before .pre) .0
+settings-requires : tie.Need-settings-requires
+settings-requires c κs = headers-there _ _ (c .before .before .before .pre) .0
 
 count-requires : tie.Need-count-requires
-count-requires c κs = omega (arith, headers-there _ _ (c .before .before .before .before .before .pre) .0)
+count-requires c κs = omega (arith, current-numbers .sample-header, headers-there _ _ (c .before .before .before .before .before .pre) .0)
 
 cast-n : tie.Need-cast-n
 cast-n c = search needs
@@ -25,7 +26,7 @@ returns : tie.Need-returns
 returns c =
     let k = c .before .before .before in
     let s = k .before .before .before .before .before .before in
-    unknown-tag (s .args .samples .now) (s .args .octants .now) _ _ _ _ (k .before .before .bucket .ensures) (k .count .ensures) (c .before .row-of .ensures)
+    unknown-tag (s .args .samples .now) (s .args .octants .now) _ _ _ _ (k .before .before .settings .ensures) (k .count .ensures) (c .before .row-of .ensures)
     (c .if1 .taken)
 
 close-row-requires : tie.Need-close-row-requires
@@ -53,14 +54,14 @@ returns-2 c =
     let d = c .before .before .before .before .before .before .before .before .before in
     let k = d .before .before .before .before .before in
     let s = k .before .before .before .before .before .before in
-    tag-removed (s .args .samples .now) (s .args .octants .now) _ _ _ _ (k .before .before .bucket .ensures) (k .count .ensures) (d .before .before .before .row-of .ensures)
+    tag-removed (s .args .samples .now) (s .args .octants .now) _ _ _ _ (k .before .before .settings .ensures) (k .count .ensures) (d .before .before .before .row-of .ensures)
     _ _ _ (d .before .before .if1 .left) (d .close-row .kept .0) (d .close-row .ensures) (c .before .before .before .before .rebuild .ensures)
 
 pub remove-sound-spec : {M : Type 1} → statement M
 remove-sound-spec =
     tie.close
     (tie.spec
-    bucket-requires
+    settings-requires
     count-requires
     cast-n
     row-of-requires
