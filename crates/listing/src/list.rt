@@ -5,18 +5,20 @@ use crate::tally::measured;
 use crate::tally::none;
 use crate::visit::pass;
 use colour::Region;
+use colour::refusal::Refusal;
 use words::layout::sample_budget;
 ghost use Prim.Native.Nat.{_≤_};
 ghost use mathlib.Core.Path.{_≡_};
 ghost use lib.ListN.{length};
 ghost use Rattle.colour.specs.Region.{Fair};
+ghost use Rattle.model.specs.Layout.{current, sampleHeader};
 ghost use Rattle.listing.specs.Pass.{passOf};
 ghost use Rattle.listing.specs.Answers.{listedAnswer, passAnswer};
 
-// What became of a listing: all were listed, so many, with octants entered and samples measured; or it was too short, question 13.
+// What became of a listing: all were listed, so many, with octants entered and samples measured; or the refusal of question 13.
 pub enum Listed {
     All(u32, u32, u32),
-    NoRoom,
+    Refused(Refusal),
 }
 
 // How many a pass lists. It writes on a word of its own, and so only counts.
@@ -34,7 +36,8 @@ fn how_many(samples: &[u32], octants: &[u32], region: Region) -> usize
 fn write(samples: &[u32], octants: &[u32], region: Region, listing: &mut [u32]) -> Listed
     requires { ⌜ (Fair region) × ((sampleHeader current ≤ length (now samples)) × (1 ≤ length (now octants))) ⌝ }
     requires { ⌜ length (passOf (now samples) (now octants) region .tags) ≤ length (now listing) ⌝ }
-    ensures { λ r. ⌜ listedAnswer r (now (listing .exit)) ≡ passAnswer (passOf (now (samples .entry)) (now (octants .entry)) region) (now (listing .entry)) ⌝ }
+    ensures { λ r. ⌜ listedAnswer r (now (listing .exit))
+        ≡ passAnswer (passOf (now (samples .entry)) (now (octants .entry)) region) (now (listing .entry)) ⌝ }
 {
     let mut tally = none();
     pass(samples, octants, region, listing, &mut tally);
@@ -45,12 +48,13 @@ fn write(samples: &[u32], octants: &[u32], region: Region, listing: &mut [u32]) 
 // first, and nothing is written where it is too short.
 pub fn list(samples: &[u32], octants: &[u32], region: Region, listing: &mut [u32]) -> Listed
     requires { ⌜ (Fair region) × ((sampleHeader current ≤ length (now samples)) × (1 ≤ length (now octants))) ⌝ }
-    ensures { λ r. ⌜ listedAnswer r (now (listing .exit)) ≡ passAnswer (passOf (now (samples .entry)) (now (octants .entry)) region) (now (listing .entry)) ⌝ }
+    ensures { λ r. ⌜ listedAnswer r (now (listing .exit))
+        ≡ passAnswer (passOf (now (samples .entry)) (now (octants .entry)) region) (now (listing .entry)) ⌝ }
 {
     let room = listing.len();
     if room < sample_budget(samples) as usize {
         if room < how_many(samples, octants, region) {
-            return Listed::NoRoom;
+            return Listed::Refused(Refusal::NoRoom);
         }
     }
     write(samples, octants, region, listing)

@@ -61,7 +61,8 @@ pub fn may_enter(tally: &[u32; 5], row: u32, limit: u32) -> bool
 // The octant in a row is entered.
 pub fn enter(tally: &mut [u32; 5], row: u32)
     requires { ⌜ (length (now tally) ≡ 5) × ((tallyIn (now tally) .entered ≤ row) × (row < 4294967295)) ⌝ }
-    ensures { λ _. ⌜ now (tally .exit) ≡ tallyWords (listedIn (now (tally .entry))) (tallyEntering row (tallyIn (now (tally .entry)))) ⌝ }
+    ensures { λ _. ⌜ now (tally .exit)
+        ≡ tallyWords (listedIn (now (tally .entry))) (tallyEntering row (tallyIn (now (tally .entry)))) ⌝ }
 {
     tally[ENTERED] = tally[ENTERED] + 1;
     tally[NEXT] = row + 1;
@@ -80,7 +81,8 @@ fn measured_after(whole: bool, measured: u32, seen: u32) -> u32
 
 // An octant's own samples were visited, and tags listed up to a place.
 pub fn count(tally: &mut [u32; 5], whole: bool, seen: u32, end: u32)
-    requires { ⌜ (length (now tally) ≡ 5) × ((tallyIn (now tally) .measured ≤ tallyIn (now tally) .visited) × (tallyIn (now tally) .visited + seen ≤ 4096)) ⌝ }
+    requires { ⌜ (length (now tally) ≡ 5)
+        × ((tallyIn (now tally) .measured ≤ tallyIn (now tally) .visited) × (tallyIn (now tally) .visited + seen ≤ 4096)) ⌝ }
     ensures { λ _. ⌜ now (tally .exit) ≡ tallyWords end (visiting whole seen (tallyIn (now (tally .entry)))) ⌝ }
 {
     let measured = measured_after(whole, tally[MEASURED], seen);

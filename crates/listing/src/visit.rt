@@ -44,7 +44,9 @@ fn own_samples(
     requires { ⌜ Fair region ⌝ }
     requires { ⌜ Counting (now samples) (now octants) (now tally) ⌝ }
     requires { ⌜ row < octantLimit current (now octants) ⌝ }
-    ensures { λ _. ⌜ Visited (ownSamples (now (samples .entry)) (now (octants .entry)) region whole row (tallyIn (now (tally .entry)))) (now (tally .entry)) (now (listing .entry)) (now (tally .exit)) (now (listing .exit)) ⌝ }
+    ensures { λ _. ⌜ Visited
+        (ownSamples (now (samples .entry)) (now (octants .entry)) region whole row (tallyIn (now (tally .entry))))
+        (now (tally .entry)) (now (listing .entry)) (now (tally .exit)) (now (listing .exit)) ⌝ }
 {
     let most = most(samples, octants, row, visited(tally));
     let run = follow(
@@ -73,7 +75,9 @@ fn visit(
     requires { ⌜ Within cube ⌝ }
     requires { ⌜ Counting (now samples) (now octants) (now tally) ⌝ }
     requires { ⌜ (tallyIn (now tally) .next ≤ row) × (row < octantLimit current (now octants)) ⌝ }
-    ensures { λ _. ⌜ Visited (visitOf (now (samples .entry)) (now (octants .entry)) region (16 - cube .depth) row (cube .low) (tallyIn (now (tally .entry)))) (now (tally .entry)) (now (listing .entry)) (now (tally .exit)) (now (listing .exit)) ⌝ }
+    ensures { λ _. ⌜ Visited
+        (visitOf (now (samples .entry)) (now (octants .entry)) region (16 - cube .depth) row (cube .low) (tallyIn (now (tally .entry))))
+        (now (tally .entry)) (now (listing .entry)) (now (tally .exit)) (now (listing .exit)) ⌝ }
 {
     enter(tally, row);
     let whole = inside(region, cube);
@@ -114,8 +118,11 @@ pub fn pass(
     requires { ⌜ Fair region ⌝ }
     requires { ⌜ (sampleHeader current ≤ length (now samples)) × (1 ≤ length (now octants)) ⌝ }
     requires { ⌜ now tally ≡ tallyWords 0 noTally ⌝ }
-    ensures visited { λ _. ⌜ Visited (passOf (now (samples .entry)) (now (octants .entry)) region) (now (tally .entry)) (now (listing .entry)) (now (tally .exit)) (now (listing .exit)) ⌝ }
-    ensures bounded { λ _. ⌜ TallyWithin (sampleBudget current (now (samples .entry))) (octantLimit current (now (octants .entry))) (tallyIn (now (tally .exit))) ⌝ }
+    ensures visited { λ _. ⌜ Visited
+        (passOf (now (samples .entry)) (now (octants .entry)) region)
+        (now (tally .entry)) (now (listing .entry)) (now (tally .exit)) (now (listing .exit)) ⌝ }
+    ensures bounded { λ _. ⌜ TallyWithin
+        (sampleBudget current (now (samples .entry))) (octantLimit current (now (octants .entry))) (tallyIn (now (tally .exit))) ⌝ }
 {
     let limit = octant_limit(octants);
     let all = root();

@@ -4,9 +4,9 @@ use mathlib.Core.List.{List, _++_}
 use mathlib.Core.Path.{_≡_, sym, ap, ap₂, _∙_}
 use native.Mathlib.Nat.{zero-add}
 use native.Mathlib.Omega.{arith}
-use borrow.Author.Tests.{le-leb, lt-leb}
 use lib.ListN.{length, drop}
 use lib.Seq.{sets, sets-eq}
+use Rattle.colour.specs.declared.refusal.Refusal.the-variants.{NoRoom}
 use Rattle.model.specs.Queries.{Counts}
 use Rattle.model.specs.Machine.{listAnswer}
 use Rattle.listing.specs.declared.list.Listed.the-variants as L
@@ -42,11 +42,11 @@ module _ {v : Visit} {words listing words′ listing′ : List ℕ} (fresh : wor
       let entered : e ≡ v .after .entered = b ∙ ap (λ (t : Tally). t .entered) after in
       let measured : m ≡ v .after .measured = c ∙ ap (λ (t : Tally). t .measured) after in
       let counts : record { entered = e; measured = m } ≡ countsOf v = λ i. record { entered = entered i; measured = measured i } in
-      rw (pass-fits v listing (le-leb (length (v .tags)) (length listing) h))
+      rw (pass-fits v listing h)
       (ap₂ (λ (k : ℕ) (x : Counts). listAnswer 0 k x listing′) (a ∙ counted-all) counts
       ∙ ap (listAnswer 0 (length (v .tags)) (countsOf v)) (listing-is h))
 
 -- A listing that is too short.
-pub no-room : (v : Visit) (listing : List ℕ) → length listing < length (v .tags) → listedAnswer L.NoRoom listing ≡ passAnswer v listing
+pub no-room : (v : Visit) (listing : List ℕ) → length listing < length (v .tags) → listedAnswer (L.Refused NoRoom) listing ≡ passAnswer v listing
 unfolding listedAnswer
-no-room v listing h = sym (pass-short v listing (lt-leb (length (v .tags)) (length listing) h))
+no-room v listing h = sym (pass-short v listing h)
