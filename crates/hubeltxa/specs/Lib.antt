@@ -1,2 +1,2 @@
 -- The calls of the C boundary, by the definitions of the crates that they call.
-pub mod Lent
+pub mod Left

@@ -3,6 +3,7 @@ use colour::Colour;
 use colour::PanelColour;
 use colour::Query;
 use colour::Sample;
+use colour::Settings;
 use colour::panel::Codes;
 use colour::panel::Floats;
 use query::answers::Reply;
@@ -12,11 +13,12 @@ ghost use mathlib.Core.Path.{_≡_};
 ghost use Rattle.colour.specs.Panel.{floatsToCodes, codesToFloats};
 ghost use Rattle.sheet.specs.Line.{writeLine};
 ghost use Rattle.sheet.specs.Sheet.{namePart};
-ghost use Rattle.model.specs.Tables.{pair};
-ghost use Rattle.model.specs.Machine.{Clear, Add, Remove, Load, plain, loadAnswer};
+ghost use Rattle.model.specs.Tables.{tablesLent, tablesLeft};
+ghost use Rattle.model.specs.Machine.{Clear, Change, Add, Remove, Load, plain, loadAnswer};
 ghost use Rattle.model.specs.Meets.{Meets};
-ghost use Rattle.query.specs.Answers.{AskMeets};
-ghost use Rattle.hubeltxa.specs.Lent.{colourOf, panelColourOf, sampleOf, codesLent, floatsLent, lineLent, partLent, CheckLent, listLent, isFound, nearLent, Told, ToldNear};
+ghost use Rattle.query.specs.Answers.{AskMeets, Bounds};
+ghost use Rattle.hubeltxa.specs.Left.{colourOf, panelColourOf, sampleOf, codesLeft, floatsLeft, lineLeft, partLeft};
+ghost use Rattle.hubeltxa.specs.Left.{CheckTold, listLeft, isFound, nearLeft, Told, ToldNear};
 
 // Floats to codes.
 #[no_mangle]
@@ -28,7 +30,7 @@ pub extern "C" fn hbx_codes(
     green_code: &mut u32,
     blue_code: &mut u32,
 ) -> u32
-    ensures { λ r. ⌜ codesLent r (now («red_code» .exit)) (now («green_code» .exit)) (now («blue_code» .exit))
+    ensures { λ r. ⌜ codesLeft r (now («red_code» .exit)) (now («green_code» .exit)) (now («blue_code» .exit))
         ≡ floatsToCodes (panelColourOf red green blue) ⌝ }
 {
     match colour::panel::codes_of(PanelColour { red, green, blue }) {
@@ -38,11 +40,11 @@ pub extern "C" fn hbx_codes(
             *blue_code = c.blue;
             0
         }
-        Codes::Refused => {
+        Codes::Refused(refusal) => {
             *red_code = 0;
             *green_code = 0;
             *blue_code = 0;
-            9
+            colour::refusal::number_of(refusal)
         }
     }
 }
@@ -57,7 +59,7 @@ pub extern "C" fn hbx_floats(
     green_out: &mut f32,
     blue_out: &mut f32,
 ) -> u32
-    ensures { λ r. ⌜ floatsLent r (now («red_out» .exit)) (now («green_out» .exit)) (now («blue_out» .exit))
+    ensures { λ r. ⌜ floatsLeft r (now («red_out» .exit)) (now («green_out» .exit)) (now («blue_out» .exit))
         ≡ codesToFloats (colourOf red green blue) ⌝ }
 {
     match colour::panel::floats_of(Colour { red, green, blue }) {
@@ -67,11 +69,11 @@ pub extern "C" fn hbx_floats(
             *blue_out = p.blue;
             0
         }
-        Floats::Refused => {
+        Floats::Refused(refusal) => {
             *red_out = 0.0;
             *green_out = 0.0;
             *blue_out = 0.0;
-            4
+            colour::refusal::number_of(refusal)
         }
     }
 }
@@ -96,7 +98,7 @@ pub extern "C" fn hbx_line(
     name: &[u8],
     line: &mut [u8],
 ) -> u32
-    ensures { λ r. ⌜ lineLent r (now (line .exit))
+    ensures { λ r. ⌜ lineLeft r (now (line .exit))
         ≡ writeLine (sampleOf tag red green blue) (now (name .entry)) (now (line .entry)) ⌝ }
 {
     let sample = sample_of(tag, red, green, blue);
@@ -106,7 +108,7 @@ pub extern "C" fn hbx_line(
 // Looks a name up: where in the sheet it starts, and its length.
 #[no_mangle]
 pub extern "C" fn hbx_name(sheet: &[u8], tag: u32, start: &mut usize, length: &mut usize)
-    ensures { λ _. ⌜ partLent (now (start .exit)) (now (length .exit)) ≡ namePart (now (sheet .entry)) tag ⌝ }
+    ensures { λ _. ⌜ partLeft (now (start .exit)) (now (length .exit)) ≡ namePart (now (sheet .entry)) tag ⌝ }
 {
     let part = sheet::lookup::name_part(sheet, tag);
     *start = part.start;
@@ -116,9 +118,11 @@ pub extern "C" fn hbx_name(sheet: &[u8], tag: u32, start: &mut usize, length: &m
 // Empties the set and sets the bucket size.
 #[no_mangle]
 pub extern "C" fn hbx_clear(samples: &mut [u32], octants: &mut [u32], bucket: u32) -> u32
-    ensures { λ r. ⌜ Meets (Clear (record { bucket = bucket })) (pair (now (samples .entry)) (now (octants .entry))) (plain r []) (pair (now (samples .exit)) (now (octants .exit))) ⌝ }
+    ensures { λ r. ⌜ Meets (Clear (record { bucket = bucket })) (tablesLent samples octants)
+        (plain r []) (tablesLeft samples octants) ⌝ }
 {
-    samples::answers::number_of(samples::clear::clear(samples, octants, bucket))
+    let settings = Settings { bucket };
+    samples::answers::number_of(samples::clear::clear(samples, octants, settings))
 }
 
 // Adds a sample.
@@ -131,7 +135,8 @@ pub extern "C" fn hbx_add(
     green: u32,
     blue: u32,
 ) -> u32
-    ensures { λ r. ⌜ Meets (Add (sampleOf tag red green blue)) (pair (now (samples .entry)) (now (octants .entry))) (plain r []) (pair (now (samples .exit)) (now (octants .exit))) ⌝ }
+    ensures { λ r. ⌜ Meets (Change (Add (sampleOf tag red green blue))) (tablesLent samples octants)
+        (plain r []) (tablesLeft samples octants) ⌝ }
 {
     let sample = sample_of(tag, red, green, blue);
     samples::answers::number_of(samples::add::add(samples, octants, sample))
@@ -140,7 +145,7 @@ pub extern "C" fn hbx_add(
 // Removes the sample with a tag.
 #[no_mangle]
 pub extern "C" fn hbx_remove(samples: &mut [u32], octants: &mut [u32], tag: u32) -> u32
-    ensures { λ r. ⌜ Meets (Remove tag) (pair (now (samples .entry)) (now (octants .entry))) (plain r []) (pair (now (samples .exit)) (now (octants .exit))) ⌝ }
+    ensures { λ r. ⌜ Meets (Change (Remove tag)) (tablesLent samples octants) (plain r []) (tablesLeft samples octants) ⌝ }
 {
     samples::answers::number_of(samples::remove::remove(samples, octants, tag))
 }
@@ -153,7 +158,8 @@ pub extern "C" fn hbx_load(
     sheet: &[u8],
     taken: &mut u32,
 ) -> u32
-    ensures { λ r. ⌜ Meets (Load (now (sheet .entry))) (pair (now (samples .entry)) (now (octants .entry))) (loadAnswer r (now (taken .exit))) (pair (now (samples .exit)) (now (octants .exit))) ⌝ }
+    ensures { λ r. ⌜ Meets (Change (Load (now (sheet .entry)))) (tablesLent samples octants)
+        (loadAnswer r (now (taken .exit))) (tablesLeft samples octants) ⌝ }
 {
     let report = samples::answers::report_of(samples::load::load(samples, octants, sheet));
     *taken = report.taken;
@@ -185,7 +191,11 @@ pub extern "C" fn hbx_ball(
     entered: &mut u32,
     measured: &mut u32,
 ) -> u32
-    ensures { λ r. ⌜ AskMeets (Query.Ball (panelColourOf red green blue) radius) (now (listing .entry)) (pair (now (samples .entry)) (now (octants .entry))) (listLent r (now (listed .exit)) (now (entered .exit)) (now (measured .exit)) (now (listing .exit))) ⌝ }
+    ensures meets { λ r. ⌜ AskMeets (Query.Ball (panelColourOf red green blue) radius)
+        (now (listing .entry)) (tablesLent samples octants)
+        (listLeft r (now (listed .exit)) (now (entered .exit)) (now (measured .exit)) (now (listing .exit))) ⌝ }
+    ensures bounds { λ r. ⌜ Bounds (now (listing .entry)) (tablesLent samples octants)
+        (listLeft r (now (listed .exit)) (now (entered .exit)) (now (measured .exit)) (now (listing .exit))) ⌝ }
 {
     let centre = PanelColour { red, green, blue };
     let reply = query::ask::ball(samples, octants, centre, radius, listing);
@@ -208,7 +218,12 @@ pub extern "C" fn hbx_box(
     entered: &mut u32,
     measured: &mut u32,
 ) -> u32
-    ensures { λ r. ⌜ AskMeets (Query.Box (panelColourOf «low_red» «low_green» «low_blue») (panelColourOf «high_red» «high_green» «high_blue»)) (now (listing .entry)) (pair (now (samples .entry)) (now (octants .entry))) (listLent r (now (listed .exit)) (now (entered .exit)) (now (measured .exit)) (now (listing .exit))) ⌝ }
+    ensures meets { λ r. ⌜ AskMeets
+        (Query.Box (panelColourOf «low_red» «low_green» «low_blue») (panelColourOf «high_red» «high_green» «high_blue»))
+        (now (listing .entry)) (tablesLent samples octants)
+        (listLeft r (now (listed .exit)) (now (entered .exit)) (now (measured .exit)) (now (listing .exit))) ⌝ }
+    ensures bounds { λ r. ⌜ Bounds (now (listing .entry)) (tablesLent samples octants)
+        (listLeft r (now (listed .exit)) (now (entered .exit)) (now (measured .exit)) (now (listing .exit))) ⌝ }
 {
     let low = PanelColour {
         red: low_red,
@@ -256,7 +271,11 @@ pub extern "C" fn hbx_near(
     tag: &mut u32,
     distance: &mut u64,
 ) -> u32
-    ensures { λ r. ⌜ ((lent : List ℕ) → AskMeets (Query.Nearest (panelColourOf red green blue) radius) lent (pair (now (samples .entry)) (now (octants .entry))) (nearLent r (now (found .exit)) (now (tag .exit)) (now (distance .exit)) lent)) ⌝ }
+    ensures meets { λ r. ⌜ ((listing : List ℕ) → AskMeets (Query.Nearest (panelColourOf red green blue) radius)
+        listing (tablesLent samples octants)
+        (nearLeft r (now (found .exit)) (now (tag .exit)) (now (distance .exit)) listing)) ⌝ }
+    ensures bounds { λ r. ⌜ ((listing : List ℕ) → Bounds listing (tablesLent samples octants)
+        (nearLeft r (now (found .exit)) (now (tag .exit)) (now (distance .exit)) listing)) ⌝ }
     ensures bit { λ _. ⌜ now (found .exit) ≤ 1 ⌝ }
 {
     let from = PanelColour { red, green, blue };
@@ -272,7 +291,7 @@ const NO: u32 = 0;
 // Whether the tables are those of some set.
 #[no_mangle]
 pub extern "C" fn hbx_check(samples: &[u32], octants: &[u32]) -> u32
-    ensures { λ r. ⌜ CheckLent (pair (now (samples .entry)) (now (octants .entry))) r ⌝ }
+    ensures { λ r. ⌜ CheckTold (tablesLent samples octants) r ⌝ }
 {
     if octree::tables::check(samples, octants) {
         return YES;

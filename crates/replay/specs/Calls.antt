@@ -4,35 +4,33 @@ use mathlib.Core.List.{List, []}
 use mathlib.Core.Option.{Option, none, some}
 use mathlib.Core.Path.{_≡_}
 use Rattle.colour.specs.declared.Query.{Query}
-use Rattle.colour.specs.declared.Query.the-variants as Q
 use Rattle.model.specs.Tables.{Tables}
-use Rattle.model.specs.Machine.{Clear, Load, Add, Remove, Ask, Answer}
+use Rattle.model.specs.Machine.{Clear, Change, Load, Add, Remove, Ask, Answer}
 use Rattle.model.specs.Machine as M
 use Rattle.model.specs.Meets.{Meets}
-use Rattle.query.specs.Answers.{AskMeets}
+use Rattle.query.specs.Answers.{AskMeets, Bounds}
+use Rattle.replay.specs.declared.calls.Changing.{Changing}
+use Rattle.replay.specs.declared.calls.Changing.the-variants as G
 use Rattle.replay.specs.declared.calls.Call.{Call}
 use Rattle.replay.specs.declared.calls.Call.the-variants as C
 use Rattle.replay.specs.declared.calls.Given.{Given}
 
 -- The machine's call that a value means, with the sheet and the listing that are lent beside it.
+unfoldable pub changeMeant : Changing → List ℕ → M.Changing
+changeMeant G.Load sheet = Load sheet
+changeMeant (G.Add s) sheet = Add s
+changeMeant (G.Remove tag) sheet = Remove tag
+
 unfoldable pub meant : Call → List ℕ → List ℕ → M.Call
-meant (C.Clear bucket) sheet lent = Clear (record { bucket = bucket })
-meant C.Load sheet lent = Load sheet
-meant (C.Add s) sheet lent = Add s
-meant (C.Remove tag) sheet lent = Remove tag
-meant (C.Ball centre radius) sheet lent = Ask (Q.Ball centre radius) lent
-meant (C.Box low high) sheet lent = Ask (Q.Box low high) lent
-meant (C.Nearest centre radius) sheet lent = Ask (Q.Nearest centre radius) lent
+meant (C.Clear s) sheet lent = Clear s
+meant (C.Change c) sheet lent = Change (changeMeant c sheet)
+meant (C.Ask q) sheet lent = Ask q lent
 
 -- The query that a call asks, where it is one.
 unfoldable pub queryOf : Call → Option Query
-queryOf (C.Clear bucket) = none
-queryOf C.Load = none
-queryOf (C.Add s) = none
-queryOf (C.Remove tag) = none
-queryOf (C.Ball centre radius) = some (Q.Ball centre radius)
-queryOf (C.Box low high) = some (Q.Box low high)
-queryOf (C.Nearest centre radius) = some (Q.Nearest centre radius)
+queryOf (C.Clear s) = none
+queryOf (C.Change c) = none
+queryOf (C.Ask q) = some q
 
 -- The listing of an answer, from the words lent for it: all of them for a query, none for another call.
 unfoldable pub listingOf : Option Query → List ℕ → List ℕ
@@ -67,6 +65,7 @@ Kept (some q) lent left = Unit {0}
 pub record Queried (q : Query) (lent : List ℕ) (t : Tables) (a : Answer) (t′ : Tables) : Type 0 where
   pub tables : t′ ≡ t
   pub asked : AskMeets q lent t a
+  pub bounds : Bounds lent t a
 
 -- The same of a call: of one that is no query nothing is said here.
 unfoldable pub Named : Option Query → List ℕ → Tables → Answer → Tables → Type 0

@@ -5,23 +5,21 @@ use mathlib.Core.List.{List, [], _∷_, _++_, map}
 use mathlib.Core.Path.{_≡_}
 use lib.ListN.{length}
 use lib.Ieee.{Float}
+use Rattle.colour.specs.declared.Settings.{Settings}
 use Rattle.colour.specs.Question.{firstNo}
-use Rattle.model.specs.SampleSet.{Settings}
 use Rattle.model.specs.Layout.{current}
 use Rattle.model.specs.Tables.{Tables}
-use Rattle.model.specs.Machine.{Call, Clear, Load, Add, Remove, Ask, Answer, plain, clearQuestions}
+use Rattle.model.specs.Machine.{Call, Clear, Change, Ask, lent, Answer, plain, clearQuestions}
 use Rattle.model.specs.Sound.{longEnough}
-use Rattle.model.specs.Meets.{Meets, lent}
+use Rattle.model.specs.Meets.{Meets}
 use Rattle.model.specs.Trace.{Event, callOf, Happened, machineTrace}
 use Rattle.query.specs.Answers.{rawAnswer}
-use Rattle.replay.specs.Script.{lentOf, stepCall, Script, scriptCalls, stepsOf, answerWords, written}
+use Rattle.replay.specs.Script.{lentOf, stepCall, Script, scriptCalls, stepsOf, answerWords, writtenOver}
 
 -- Of a query the answer and the listing are named, on any words of the tables.
 unfoldable pub NamedAnswer : Call → Tables → Answer → Type 0
-NamedAnswer (Clear b) t a = Unit {0}
-NamedAnswer (Load sheet) t a = Unit {0}
-NamedAnswer (Add s) t a = Unit {0}
-NamedAnswer (Remove tag) t a = Unit {0}
+NamedAnswer (Clear s) t a = Unit {0}
+NamedAnswer (Change c) t a = Unit {0}
 NamedAnswer (Ask q l) t a = a ≡ rawAnswer t q l
 
 -- One step on tables t, which is lent r words: its call's contract, its listing over those words, and the answer's words.
@@ -30,8 +28,8 @@ pub record Stepped (words : List ℕ) (floats : List Float) (sheets listings ans
   pub answer : Answer
   pub meets : Meets (stepCall words floats sheets listings) t answer t′
   pub named : NamedAnswer (stepCall words floats sheets listings) t answer
-  pub listed : listings′ ≡ written (answer .listing) listings
-  pub answered : answers′ ≡ written (answerWords answer) answers
+  pub listed : listings′ ≡ writtenOver (answer .listing) listings
+  pub answered : answers′ ≡ writtenOver (answerWords answer) answers
   pub filled : length (answer .listing) ≡ length (lentOf words floats listings)
   pub lent-is : r ≡ length (lentOf words floats listings)
 
@@ -46,9 +44,9 @@ AllNamed t [] = Unit {0}
 AllNamed t (e ∷ rest) = NamedAnswer (e .call) t (e .answer) × AllNamed (e .after) rest
 
 -- What each event gives, one after the other.
-unfoldable pub inTurn : (Event → List ℕ) → List Event → List ℕ
-inTurn f [] = []
-inTurn f (e ∷ rest) = f e ++ inTurn f rest
+unfoldable pub ofEvents : (Event → List ℕ) → List Event → List ℕ
+ofEvents f [] = []
+ofEvents f (e ∷ rest) = f e ++ ofEvents f rest
 
 -- An event's answer in words, and its listing, which is empty for a call that is no query.
 abbrev pub wordsOf : Event → List ℕ
@@ -64,8 +62,8 @@ pub record Ran (s : Script) (answers : List ℕ) (t : Tables) (n : ℕ) (listing
   pub happened : Happened t events
   pub named : AllNamed t events
   pub tables : t′ ≡ lastTables t events
-  pub answered : answers′ ≡ written (inTurn wordsOf events) answers
-  pub listed : listings′ ≡ written (inTurn listingIn events) (s .listings)
+  pub answered : answers′ ≡ writtenOver (ofEvents wordsOf events) answers
+  pub listed : listings′ ≡ writtenOver (ofEvents listingIn events) (s .listings)
 
 -- A call refused by 1 on tables t.
 unfoldable pub refusedShort : Tables → Call → Event
@@ -76,7 +74,7 @@ pub record Replayed (s : Script) (answers : List ℕ) (t : Tables) (r : ℕ) (li
   pub made : r ≡ stepsOf s answers
   pub ran : Ran s answers t r listings′ answers′ t′
   -- A script whose first call is a clear that its questions accept: all is the machine's, every answer and every word of both tables.
-  pub day : (b : Settings) (rest : List Call) → scriptCalls s r ≡ Clear b ∷ rest → longEnough current t ≡ true → firstNo (clearQuestions b) ≡ 0
-      → ran .events ≡ machineTrace b t rest
+  pub day : (x : Settings) (rest : List Call) → scriptCalls s r ≡ Clear x ∷ rest → longEnough current t ≡ true → firstNo (clearQuestions x) ≡ 0
+      → ran .events ≡ machineTrace x t rest
   -- Tables that are too short: every call is refused by 1, and nothing changes.
   pub short : longEnough current t ≡ false → ran .events ≡ map (refusedShort t) (scriptCalls s r)

@@ -9,8 +9,10 @@ use lib.Ieee.{Float, fin}
 use Rattle.colour.specs.declared.PanelColour.{PanelColour}
 use Rattle.colour.specs.declared.Sample.{Sample}
 use Rattle.colour.specs.declared.Query.{Query}
+use Rattle.colour.specs.declared.Query.the-variants as Q
 use Rattle.model.specs.Machine.{Answer}
 use Rattle.model.specs.Machine as M
+use Rattle.replay.specs.declared.calls.Changing.the-variants as G
 use Rattle.replay.specs.declared.calls.Call.{Call}
 use Rattle.replay.specs.declared.calls.Call.the-variants as C
 use Rattle.replay.specs.Calls.{meant, queryOf}
@@ -25,24 +27,24 @@ unfoldable pub colourAt : List Float → ℕ → PanelColour
 colourAt floats k = record { red = getD floats k noFloat; green = getD floats (k + 1) noFloat; blue = getD floats (k + 2) noFloat }
 
 -- The sample that an add says.
-unfoldable pub sampleIn : List ℕ → Sample
-sampleIn words =
+unfoldable pub sampleSaid : List ℕ → Sample
+sampleSaid words =
     record { tag = getD words tagAt 0; colour = record { red = getD words redAt 0; green = getD words greenAt 0; blue = getD words blueAt 0 } }
 
 -- The calls that a step chooses from, by their place in this list.
 unfoldable pub firstCalls : List ℕ → List Float → List Call
 firstCalls words floats =
-    C.Clear (getD words bucketAt 0)
-    ∷ C.Load
-    ∷ C.Add (sampleIn words)
-    ∷ C.Remove (getD words tagAt 0)
-    ∷ C.Ball (colourAt floats lowAt) (getD floats radiusAt noFloat)
-    ∷ C.Box (colourAt floats lowAt) (colourAt floats highAt)
+    C.Clear (record { bucket = getD words bucketAt 0 })
+    ∷ C.Change G.Load
+    ∷ C.Change (G.Add (sampleSaid words))
+    ∷ C.Change (G.Remove (getD words tagAt 0))
+    ∷ C.Ask (Q.Ball (colourAt floats lowAt) (getD floats radiusAt noFloat))
+    ∷ C.Ask (Q.Box (colourAt floats lowAt) (colourAt floats highAt))
     ∷ []
 
 -- The call of any other step: a nearest query.
 abbrev pub otherCall : List Float → Call
-otherCall floats = C.Nearest (colourAt floats lowAt) (getD floats radiusAt noFloat)
+otherCall floats = C.Ask (Q.Nearest (colourAt floats lowAt) (getD floats radiusAt noFloat))
 
 -- The call that a step says.
 unfoldable pub callIn : List ℕ → List Float → Call
@@ -123,5 +125,5 @@ answerWords a =
     ∷ []
 
 -- Words written over others from the first on; the rest stay.
-unfoldable pub written : List ℕ → List ℕ → List ℕ
-written new old = new ++ drop (length new) old
+unfoldable pub writtenOver : List ℕ → List ℕ → List ℕ
+writtenOver new old = new ++ drop (length new) old

@@ -1,6 +1,7 @@
 // A call as a value, and what a call gives as a value.
-use colour::PanelColour;
+use colour::Query;
 use colour::Sample;
+use colour::Settings;
 use query::answers::Reply;
 use samples::answers::Changed;
 use samples::answers::Loaded;
@@ -13,15 +14,18 @@ ghost use Rattle.samples.specs.Answers.{changedAnswer, loadedAnswer};
 ghost use Rattle.query.specs.Answers.{replyAnswer};
 ghost use Rattle.replay.specs.Calls.{answerOf};
 
-// A call and its numbers. The sheet of a load and the listing of a query are lent beside it.
-pub enum Call {
-    Clear(u32),
+// A call that changes a set. The sheet of a load is lent beside it.
+pub enum Changing {
     Load,
     Add(Sample),
     Remove(u32),
-    Ball(PanelColour, f32),
-    Box(PanelColour, PanelColour),
-    Nearest(PanelColour, f32),
+}
+
+// Any call. The listing of a query is lent beside it.
+pub enum Call {
+    Clear(Settings),
+    Change(Changing),
+    Ask(Query),
 }
 
 // All that a call gives back besides the tables and the listing; what it does not report is 0.
@@ -69,7 +73,7 @@ pub fn of_loaded(answer: Loaded) -> Given
 
 // What a query gives, whatever its listing.
 pub fn of_reply(reply: Reply) -> Given
-    ensures { λ r. ⌜ ((lent : List ℕ) → answerOf r lent ≡ replyAnswer reply lent) ⌝ }
+    ensures { λ r. ⌜ ((left : List ℕ) → answerOf r left ≡ replyAnswer reply left) ⌝ }
 {
     let report = query::answers::report_of(reply);
     Given {

@@ -11,10 +11,10 @@ ghost use Prim.Native.Nat.{_≤_};
 ghost use mathlib.Core.List.{[]};
 ghost use mathlib.Core.Path.{_≡_};
 ghost use lib.ListN.{length};
-ghost use Rattle.model.specs.Tables.{pair};
+ghost use Rattle.model.specs.Tables.{tablesLent, tablesLeft};
 ghost use Rattle.replay.specs.Calls.{answerOf};
 ghost use Rattle.replay.specs.Format.{answerWidth};
-ghost use Rattle.replay.specs.Script.{scriptOf, written, answerWords};
+ghost use Rattle.replay.specs.Script.{scriptOf, writtenOver, answerWords};
 ghost use Rattle.replay.specs.Replayed.{Stepped, Replayed};
 
 // What the upper word of a number of two words counts in.
@@ -23,7 +23,7 @@ const HALF: u64 = 4294967296;
 // Writes what a call gave, as the words of an answer.
 fn put_given(given: Given, answers: &mut [u32])
     requires { ⌜ answerWidth ≤ length (now answers) ⌝ }
-    ensures { λ _. ⌜ now (answers .exit) ≡ written (answerWords (answerOf given [])) (now (answers .entry)) ⌝ }
+    ensures { λ _. ⌜ now (answers .exit) ≡ writtenOver (answerWords (answerOf given [])) (now (answers .entry)) ⌝ }
 {
     let tag = given.tag as u64;
     answers[0] = given.number;
@@ -51,7 +51,9 @@ fn step(
     answers: &mut [u32],
 ) -> usize
     requires { ⌜ answerWidth ≤ length (now answers) ⌝ }
-    ensures { λ r. ⌜ Stepped (now (words .entry)) (now (floats .entry)) (now (sheets .entry)) (now (listings .entry)) (now (answers .entry)) (pair (now (samples .entry)) (now (octants .entry))) r (now (listings .exit)) (now (answers .exit)) (pair (now (samples .exit)) (now (octants .exit))) ⌝ }
+    ensures { λ r. ⌜ Stepped (now (words .entry)) (now (floats .entry)) (now (sheets .entry))
+        (now (listings .entry)) (now (answers .entry)) (tablesLent samples octants)
+        r (now (listings .exit)) (now (answers .exit)) (tablesLeft samples octants) ⌝ }
 {
     let next = call_in(words, floats);
     let lent = lent_to(next, words, listings.len());
@@ -72,7 +74,9 @@ pub extern "C" fn hbx_replay(
     listings: &mut [u32],
     answers: &mut [u32],
 ) -> usize
-    ensures { λ r. ⌜ Replayed (scriptOf (now (script .entry)) (now (floats .entry)) (now (sheets .entry)) (now (listings .entry))) (now (answers .entry)) (pair (now (samples .entry)) (now (octants .entry))) r (now (listings .exit)) (now (answers .exit)) (pair (now (samples .exit)) (now (octants .exit))) ⌝ }
+    ensures { λ r. ⌜ Replayed (scriptOf (now (script .entry)) (now (floats .entry)) (now (sheets .entry)) (now (listings .entry)))
+        (now (answers .entry)) (tablesLent samples octants)
+        r (now (listings .exit)) (now (answers .exit)) (tablesLeft samples octants) ⌝ }
 {
     let steps = steps_of(script.len(), floats.len(), answers.len());
     let mut at = 0;

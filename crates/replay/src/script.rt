@@ -1,5 +1,6 @@
 // A step of a script: the call that it says, the part of the sheets that it names, and how much of the listings it is lent.
 use crate::calls::Call;
+use crate::calls::Changing;
 use crate::format::ANSWER;
 use crate::format::BLUE;
 use crate::format::BUCKET;
@@ -16,14 +17,16 @@ use crate::format::STEP;
 use crate::format::TAG;
 use colour::Colour;
 use colour::PanelColour;
+use colour::Query;
 use colour::Sample;
+use colour::Settings;
 use words::number::least;
 ghost use Prim.Native.Nat.{_+_, _/_, min};
 ghost use mathlib.Core.Path.{_≡_};
 ghost use lib.ListN.{getD};
 ghost use Rattle.replay.specs.Calls.{queryOf};
 ghost use Rattle.replay.specs.Format.{stepWidth, answerWidth, lentAt};
-ghost use Rattle.replay.specs.Script.{noFloat, colourAt, sampleIn, callIn, sheetIn, wants};
+ghost use Rattle.replay.specs.Script.{noFloat, colourAt, sampleSaid, callIn, sheetIn, wants};
 
 // How many steps there are words, floats and answer words for.
 pub fn steps_of(words: usize, floats: usize, answers: usize) -> usize
@@ -59,8 +62,8 @@ fn colour_at(floats: &[f32], k: u32) -> PanelColour
 }
 
 // The sample that an add says.
-fn sample_in(words: &[u32]) -> Sample
-    ensures { λ r. ⌜ r ≡ sampleIn (now (words .entry)) ⌝ }
+fn sample_said(words: &[u32]) -> Sample
+    ensures { λ r. ⌜ r ≡ sampleSaid (now (words .entry)) ⌝ }
 {
     Sample {
         tag: word_at(words, TAG),
@@ -77,18 +80,18 @@ pub fn call_in(words: &[u32], floats: &[f32]) -> Call
     ensures { λ r. ⌜ r ≡ callIn (now (words .entry)) (now (floats .entry)) ⌝ }
 {
     let bucket = word_at(words, BUCKET);
-    let sample = sample_in(words);
+    let sample = sample_said(words);
     let low = colour_at(floats, LOW);
     let high = colour_at(floats, HIGH);
     let radius = float_at(floats, RADIUS);
     match word_at(words, KIND) {
-        0 => Call::Clear(bucket),
-        1 => Call::Load,
-        2 => Call::Add(sample),
-        3 => Call::Remove(sample.tag),
-        4 => Call::Ball(low, radius),
-        5 => Call::Box(low, high),
-        _ => Call::Nearest(low, radius),
+        0 => Call::Clear(Settings { bucket }),
+        1 => Call::Change(Changing::Load),
+        2 => Call::Change(Changing::Add(sample)),
+        3 => Call::Change(Changing::Remove(sample.tag)),
+        4 => Call::Ask(Query::Ball(low, radius)),
+        5 => Call::Ask(Query::Box(low, high)),
+        _ => Call::Ask(Query::Nearest(low, radius)),
     }
 }
 
@@ -109,11 +112,7 @@ pub fn lent_to(call: Call, words: &[u32], left: usize) -> usize
     let most = least(word_at(words, LENT) as usize, left);
     match call {
         Call::Clear(_) => 0,
-        Call::Load => 0,
-        Call::Add(_) => 0,
-        Call::Remove(_) => 0,
-        Call::Ball(_, _) => most,
-        Call::Box(_, _) => most,
-        Call::Nearest(_, _) => most,
+        Call::Change(_) => 0,
+        Call::Ask(_) => most,
     }
 }

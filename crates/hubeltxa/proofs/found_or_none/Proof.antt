@@ -1,7 +1,7 @@
 -- `found_or_none`: by the bit.
 use mathlib.Core.Path.{sym}
 use native.Mathlib.Omega.{arith}
-use Rattle.hubeltxa.specs.Lent.{isFound}
+use Rattle.hubeltxa.specs.Left.{isFound}
 use Rattle.hubeltxa.proofs.found_or_none.Statement.{statement}
 use Rattle.hubeltxa.proofs.found_or_none.Tie as tie
 

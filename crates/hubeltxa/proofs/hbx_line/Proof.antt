@@ -2,9 +2,9 @@
 use borrow.Author.Needs.{needs}
 use mathlib.Core.Path.{ap, _∙_}
 use Rattle.colour.specs.declared.Sample.{Sample}
-use Rattle.sheet.specs.Answers.{written}
+use Rattle.sheet.specs.Answers.{writtenAnswer}
 use Rattle.sheet.specs.Line.{writeLine}
-use Rattle.hubeltxa.specs.Lent.{lineLent}
+use Rattle.hubeltxa.specs.Left.{lineLeft}
 use Rattle.hubeltxa.proofs.hbx_line.Statement.{statement}
 use Rattle.hubeltxa.proofs.hbx_line.Tie as tie
 
@@ -21,11 +21,11 @@ same-length : tie.Need-same-length
 same-length c = search needs
 
 returns : tie.Need-returns
-unfolding written
+unfolding writtenAnswer
 returns c =
     let w = c .before .before .before .write-line in
     let a = c .before .before .before .before .before .before .before .before .args in
-    ap (λ n. lineLent n (w .last .1 .1 .0)) (c .number-of .ensures)
+    ap (λ n. lineLeft n (w .last .1 .1 .0)) (c .number-of .ensures)
     ∙ w .ensures
     ∙ ap (λ (s : Sample). writeLine s (a .name .now) (a .line .now)) (c .before .before .before .before .before .sample-of .ensures)
 

@@ -4,11 +4,11 @@ use mathlib.Core.Bool.{true, false}
 use mathlib.Core.List.{List, [], _∷_, map}
 use mathlib.Core.Path.{_≡_, refl, ap, _∙_, subst}
 use native.Mathlib.Omega.{arith}
+use Rattle.colour.specs.declared.Settings.{Settings}
 use Rattle.colour.specs.Question.{firstNo}
-use Rattle.model.specs.SampleSet.{Settings}
 use Rattle.model.specs.Layout.{current}
 use Rattle.model.specs.Tables.{Tables}
-use Rattle.model.specs.Machine.{Call, Clear, Load, Add, Remove, Ask, Answer, clearQuestions}
+use Rattle.model.specs.Machine.{Call, Clear, Change, Ask, Answer, clearQuestions}
 use Rattle.model.specs.Sound.{longEnough}
 use Rattle.model.specs.Meets.{Meets, Refused}
 use Rattle.model.specs.Trace.{Event, callOf, Happened, machineTrace}
@@ -33,10 +33,8 @@ day-of t (d ∷ es) h b rest e long ok =
 module _ (t : Tables) (e : longEnough current t ≡ false) where
   refuses : (c : Call) (a : Answer) (t′ : Tables) → Meets c t a t′ → Refused 1 c t a t′
   unfolding Meets
-  refuses (Clear b) a t′ m = m .short e
-  refuses (Load sheet) a t′ m = m .short e
-  refuses (Add s) a t′ m = m .short e
-  refuses (Remove tag) a t′ m = m .short e
+  refuses (Clear x) a t′ m = m .short e
+  refuses (Change c) a t′ m = m .short e
   refuses (Ask q l) a t′ m = m .short e
 
   short-of : (es : List Event) → Happened t es → es ≡ map (refusedShort t) (map callOf es)

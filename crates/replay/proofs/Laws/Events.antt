@@ -13,15 +13,15 @@ use Rattle.model.specs.Machine.{Call}
 use Rattle.model.specs.Meets.{Meets}
 use Rattle.model.specs.Trace.{Event, callOf, Happened}
 use Rattle.replay.specs.Format.{stepWidth, answerWidth}
-use Rattle.replay.specs.Script.{Script, lentOf, stepCall, wordsFrom, floatsFrom, lentBefore, listingsFrom, scriptCalls, answerWords, written}
-use Rattle.replay.specs.Replayed.{NamedAnswer, AllNamed, Stepped, Ran, lastTables, inTurn, wordsOf, listingIn}
+use Rattle.replay.specs.Script.{Script, lentOf, stepCall, wordsFrom, floatsFrom, lentBefore, listingsFrom, scriptCalls, answerWords, writtenOver}
+use Rattle.replay.specs.Replayed.{NamedAnswer, AllNamed, Stepped, Ran, lastTables, ofEvents, wordsOf, listingIn}
 use Rattle.replay.proofs.Laws.Parts.{tail-whole, written-next}
 
 -- One event more.
-in-turn-more : (f : Event → List ℕ) (es : List Event) (e : Event) → inTurn f (es ++ (e ∷ [])) ≡ inTurn f es ++ f e
-unfolding inTurn
-in-turn-more f [] e = append-nil (f e)
-in-turn-more f (d ∷ es) e = ap (λ (l : List ℕ). f d ++ l) (in-turn-more f es e) ∙ sym (append-assoc (f d) (inTurn f es) (f e))
+of-events-more : (f : Event → List ℕ) (es : List Event) (e : Event) → ofEvents f (es ++ (e ∷ [])) ≡ ofEvents f es ++ f e
+unfolding ofEvents
+of-events-more f [] e = append-nil (f e)
+of-events-more f (d ∷ es) e = ap (λ (l : List ℕ). f d ++ l) (of-events-more f es e) ∙ sym (append-assoc (f d) (ofEvents f es) (f e))
 
 last-more : (t : Tables) (es : List Event) (e : Event) → lastTables t (es ++ (e ∷ [])) ≡ e .after
 unfolding lastTables
@@ -41,20 +41,20 @@ named-more t [] e h m = (m, tt)
 named-more t (d ∷ es) e h m = (h .0, named-more (d .after) es e (h .1) m)
 
 -- What is written over some words so far, and what is written over the rest of them next.
-over-next : (a b old now next : List ℕ) (at : ℕ) → now ≡ written a old → length a ≡ at → next ≡ written b (drop at now)
-    → take at now ++ next ≡ written (a ++ b) old
+over-next : (a b old now next : List ℕ) (at : ℕ) → now ≡ writtenOver a old → length a ≡ at → next ≡ writtenOver b (drop at now)
+    → take at now ++ next ≡ writtenOver (a ++ b) old
 over-next a b old now next at so-far end more = rw (more, so-far, ← end) (written-next a b old)
 
 -- The first i steps, with where the next step's part of the listings begins.
 pub record Upto (s : Script) (answers₀ : List ℕ) (t₀ : Tables) (i at : ℕ) (listings answers : List ℕ) (t : Tables) : Type 0 where
   pub ran : Ran s answers₀ t₀ i listings answers t
   pub place : at ≡ lentBefore s i
-  pub filled : length (inTurn listingIn (ran .events)) ≡ at
-  pub count : length (inTurn wordsOf (ran .events)) ≡ answerWidth * i
+  pub filled : length (ofEvents listingIn (ran .events)) ≡ at
+  pub count : length (ofEvents wordsOf (ran .events)) ≡ answerWidth * i
 
 module _ (s : Script) (answers₀ : List ℕ) (t₀ : Tables) where
   pub begin : Upto s answers₀ t₀ 0 0 (s .listings) answers₀ t₀
-  unfolding scriptCalls Happened AllNamed lastTables inTurn written lentBefore
+  unfolding scriptCalls Happened AllNamed lastTables ofEvents writtenOver lentBefore
   begin =
       record {
         ran = record { events = []; calls = refl; happened = tt; named = tt; tables = refl; answered = refl; listed = refl };
@@ -66,14 +66,14 @@ module _ (s : Script) (answers₀ : List ℕ) (t₀ : Tables) where
   module _ (i at : ℕ) (listings answers : List ℕ) (t : Tables) (u : Upto s answers₀ t₀ i at listings answers t) where
     -- What is left of the listings is as it was.
     rest : drop at listings ≡ listingsFrom s i
-    unfolding written
+    unfolding writtenOver
     rest =
-        rw (← u .filled, u .ran .listed) (drop-append-seam (inTurn listingIn (u .ran .events)) _)
+        rw (← u .filled, u .ran .listed) (drop-append-seam (ofEvents listingIn (u .ran .events)) _)
         ∙ ap (λ (k : ℕ). drop k (s .listings)) (u .filled ∙ u .place)
 
     pub within : at ≤ length listings
-    unfolding written
-    within = omega (arith, u .filled, ap length (u .ran .listed) ∙ length-append (inTurn listingIn (u .ran .events)) _)
+    unfolding writtenOver
+    within = omega (arith, u .filled, ap length (u .ran .listed) ∙ length-append (ofEvents listingIn (u .ran .events)) _)
 
     module _ (r : ℕ) (listings′ answers′ : List ℕ) (t′ : Tables)
         (st : Stepped (wordsFrom s i) (floatsFrom s i) (s .sheets) (drop at listings) (drop (answerWidth * i) answers) t r listings′ answers′ t′) where
@@ -96,10 +96,10 @@ module _ (s : Script) (answers₀ : List ℕ) (t₀ : Tables) where
           let named : NamedAnswer call (lastTables t₀ events) (st .answer) = rw (rest, u .ran .tables) at (st .named) in
           let more : map callOf (events ++ (event ∷ [])) ≡ scriptCalls s i ++ (call ∷ []) =
           map-append callOf events (event ∷ []) ∙ ap (λ (l : List Call). l ++ (call ∷ [])) (u .ran .calls) in
-          let listings-more : inTurn listingIn (events ++ (event ∷ [])) ≡ inTurn listingIn events ++ st .answer .listing =
-          in-turn-more listingIn events event in
-          let answers-more : inTurn wordsOf (events ++ (event ∷ [])) ≡ inTurn wordsOf events ++ answerWords (st .answer) =
-          in-turn-more wordsOf events event in
+          let listings-more : ofEvents listingIn (events ++ (event ∷ [])) ≡ ofEvents listingIn events ++ st .answer .listing =
+          of-events-more listingIn events event in
+          let answers-more : ofEvents wordsOf (events ++ (event ∷ [])) ≡ ofEvents wordsOf events ++ answerWords (st .answer) =
+          of-events-more wordsOf events event in
           record {
             ran =
                 record {
@@ -110,19 +110,19 @@ module _ (s : Script) (answers₀ : List ℕ) (t₀ : Tables) where
                   tables = sym (last-more t₀ events event);
                   answered =
                       over-next _ _ answers₀ answers answers′ (answerWidth * i) (u .ran .answered) (u .count) (st .answered)
-                      ∙ ap (λ (l : List ℕ). written l answers₀) (sym answers-more);
+                      ∙ ap (λ (l : List ℕ). writtenOver l answers₀) (sym answers-more);
                   listed =
                       over-next _ _ (s .listings) listings listings′ at (u .ran .listed) (u .filled) (st .listed)
-                      ∙ ap (λ (l : List ℕ). written l (s .listings)) (sym listings-more);
+                      ∙ ap (λ (l : List ℕ). writtenOver l (s .listings)) (sym listings-more);
                 };
             place = (λ k. u .place k + size k) ∙ sym (ap (lentBefore s) (add-one i));
             filled =
                 ap length listings-more
-                ∙ length-append (inTurn listingIn events) (st .answer .listing)
+                ∙ length-append (ofEvents listingIn events) (st .answer .listing)
                 ∙ (λ k. u .filled k + (st .filled ∙ sym (st .lent-is)) k);
             count =
-                let sum : length (inTurn wordsOf (events ++ (event ∷ []))) ≡ length (inTurn wordsOf events) + answerWidth =
-                ap length answers-more ∙ length-append (inTurn wordsOf events) (answerWords (st .answer)) in
+                let sum : length (ofEvents wordsOf (events ++ (event ∷ []))) ≡ length (ofEvents wordsOf events) + answerWidth =
+                ap length answers-more ∙ length-append (ofEvents wordsOf events) (answerWords (st .answer)) in
                 omega (arith, u .count);
           }
 

@@ -9,7 +9,7 @@ use mir.Val.{boolByte}
 use lib.ListN.{length, take, drop, getD, length-append, length-drop}
 use lib.Seq.{sets, sets-eq, take-all, drop-cons, drop-drop, take-append-seam, drop-append-seam}
 use Rattle.words.proofs.Laws.Clipped.{take-clipped, drop-clipped}
-use Rattle.replay.specs.Script.{written, flag}
+use Rattle.replay.specs.Script.{writtenOver, flag}
 
 -- An element that is there is read whatever stands for one past the end.
 pub getD-any : {A : Type 0} (l : List A) (k : ℕ) (d e : A) → k < length l → getD l k d ≡ getD l k e
@@ -30,8 +30,8 @@ pub tail-whole : {A : Type 0} (l : List A) (a : ℕ) → take (length l - a) (dr
 tail-whole l a = take-all (length l - a) (drop a l) (omega (arith, length-drop a l))
 
 -- Words stored one by one from the first on.
-pub stored : (new old : List ℕ) → length new ≤ length old → sets old 0 new ≡ written new old
-unfolding written
+pub stored : (new old : List ℕ) → length new ≤ length old → sets old 0 new ≡ writtenOver new old
+unfolding writtenOver
 stored new old h =
     let room : 0 + length new ≤ length old = omega arith in
     rw (← zero-add (length new)) (sets-eq new old 0 room)
@@ -43,8 +43,8 @@ flag-is true = refl
 flag-is false = refl
 
 -- What is written after some words is written over the rest.
-pub written-next : (a b old : List ℕ) → take (length a) (written a old) ++ written b (drop (length a) (written a old)) ≡ written (a ++ b) old
-unfolding written
+pub written-next : (a b old : List ℕ) → take (length a) (writtenOver a old) ++ writtenOver b (drop (length a) (writtenOver a old)) ≡ writtenOver (a ++ b) old
+unfolding writtenOver
 written-next a b old =
     rw
     (take-append-seam a (drop (length a) old), drop-append-seam a (drop (length a) old), drop-drop (length b) (length a) old, append-assoc, length-append)

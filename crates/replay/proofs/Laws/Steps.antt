@@ -14,7 +14,7 @@ use Rattle.replay.specs.declared.calls.Call.the-variants as C
 use Rattle.replay.specs.declared.calls.Given.{Given}
 use Rattle.replay.specs.Calls.{meant, queryOf, listingOf, answerOf, givenAnswer, Kept, Named, CallMeets}
 use Rattle.replay.specs.Format.{kindAt, lentAt}
-use Rattle.replay.specs.Script.{firstCalls, otherCall, callIn, sheetIn, wants, lentOf, stepCall, answerWords, written}
+use Rattle.replay.specs.Script.{firstCalls, otherCall, callIn, sheetIn, wants, lentOf, stepCall, answerWords, writtenOver}
 use Rattle.replay.specs.Replayed.{NamedAnswer, Stepped}
 use Rattle.words.proofs.Laws.Clipped.{take-clipped}
 
@@ -37,21 +37,17 @@ listing-whole (some q) most l left kept = refl
 -- A query's answer is named.
 answer-named : (c : Call) (sheet l : List ℕ) (t : Tables) (a : Answer) (t′ : Tables) → Named (queryOf c) l t a t′ → NamedAnswer (meant c sheet l) t a
 unfolding Named NamedAnswer meant queryOf
-answer-named (C.Clear bucket) sheet l t a t′ h = tt
-answer-named C.Load sheet l t a t′ h = tt
-answer-named (C.Add s) sheet l t a t′ h = tt
-answer-named (C.Remove tag) sheet l t a t′ h = tt
-answer-named (C.Ball centre radius) sheet l t a t′ h = h .asked .named
-answer-named (C.Box low high) sheet l t a t′ h = h .asked .named
-answer-named (C.Nearest centre radius) sheet l t a t′ h = h .asked .named
+answer-named (C.Clear s) sheet l t a t′ h = tt
+answer-named (C.Change c) sheet l t a t′ h = tt
+answer-named (C.Ask q) sheet l t a t′ h = h .asked .named
 
 -- A step, by what its call, its sheet and the words that it is lent are.
 module _ (words : List ℕ) (floats : List Float) (sheets listings answers : List ℕ) (t : Tables) where
   pub stepped : (c : Call) (sheet : List ℕ) (n : ℕ) (r : Given) (left answers′ : List ℕ) (t′ : Tables) → c ≡ callIn words floats
       → sheet ≡ sheetIn words sheets → n ≡ min (wants (queryOf c) (getD words lentAt 0)) (length listings) → length left ≡ length (take n listings)
-      → CallMeets c sheet (take n listings) t r left t′ → answers′ ≡ written (answerWords (answerOf r [])) answers
+      → CallMeets c sheet (take n listings) t r left t′ → answers′ ≡ writtenOver (answerWords (answerOf r [])) answers
       → Stepped words floats sheets listings answers t n (left ++ drop n listings) answers′ t′
-  unfolding lentOf stepCall answerWords givenAnswer answerOf written
+  unfolding lentOf stepCall answerWords givenAnswer answerOf writtenOver
   stepped c sheet n r left answers′ t′ call-is sheet-is n-is same-length meets put =
       let n-clipped : n ≡ min (wants (queryOf (callIn words floats)) (getD words lentAt 0)) (length listings) =
       n-is ∙ ap (λ (x : Call). min (wants (queryOf x) (getD words lentAt 0)) (length listings)) call-is in

@@ -24,18 +24,6 @@ enum-told-2 c = search needs
 enum-told-3 : tie.Need-enum-told-3
 enum-told-3 c = search needs
 
-enum-told-4 : tie.Need-enum-told-4
-enum-told-4 c = search needs
-
-enum-told-5 : tie.Need-enum-told-5
-enum-told-5 c = search needs
-
-enum-told-6 : tie.Need-enum-told-6
-enum-told-6 c = search needs
-
-enum-told-7 : tie.Need-enum-told-7
-enum-told-7 c = search needs
-
 returns : tie.Need-returns
 unfolding queryOf wants
 returns c = rw (c .enum-told .given .1) (omega (arith, c .before .before .least .ensures, c .before .before .before .word-at .ensures))
@@ -48,22 +36,6 @@ returns-3 : tie.Need-returns-3
 unfolding queryOf wants
 returns-3 c = rw (c .enum-told3 .given .1) (omega (arith, c .before .before .least .ensures, c .before .before .before .word-at .ensures))
 
-returns-4 : tie.Need-returns-4
-unfolding queryOf wants
-returns-4 c = rw (c .enum-told4 .given .1) (omega (arith, c .before .before .least .ensures, c .before .before .before .word-at .ensures))
-
-returns-5 : tie.Need-returns-5
-unfolding queryOf wants
-returns-5 c = rw (c .enum-told5 .given .1) (omega (arith, c .before .before .least .ensures, c .before .before .before .word-at .ensures))
-
-returns-6 : tie.Need-returns-6
-unfolding queryOf wants
-returns-6 c = rw (c .enum-told6 .given .1) (omega (arith, c .before .before .least .ensures, c .before .before .before .word-at .ensures))
-
-returns-7 : tie.Need-returns-7
-unfolding queryOf wants
-returns-7 c = rw (c .enum-told7 .given .1) (omega (arith, c .before .before .least .ensures, c .before .before .before .word-at .ensures))
-
 pub lent-to-spec : {M : Type 1} → statement M
 lent-to-spec =
     tie.close
@@ -74,14 +46,6 @@ lent-to-spec =
     enum-told
     enum-told-2
     enum-told-3
-    enum-told-4
-    enum-told-5
-    enum-told-6
-    enum-told-7
     returns
     returns-2
-    returns-3
-    returns-4
-    returns-5
-    returns-6
-    returns-7)
+    returns-3)

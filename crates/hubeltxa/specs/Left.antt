@@ -1,4 +1,4 @@
--- Records of document 01 from the flat numbers, floats and lent words of a C call.
+-- Records of document 01 from the flat numbers, floats and words of a C call, as it leaves them.
 use Prim.Native.Nat.{ℕ, _≤_}
 use mathlib.Core.Bool.{Bool}
 use mathlib.Core.List.{List}
@@ -30,49 +30,49 @@ abbrev pub sampleOf : ℕ → ℕ → ℕ → ℕ → Sample
 sampleOf t r g b = record { tag = t; colour = colourOf r g b }
 
 -- The answer is the number returned and the three words as the call leaves them.
-abbrev pub codesLent : ℕ → ℕ → ℕ → ℕ → CodesAnswer
-codesLent n r g b = record { number = n; codes = colourOf r g b }
+abbrev pub codesLeft : ℕ → ℕ → ℕ → ℕ → CodesAnswer
+codesLeft n r g b = record { number = n; codes = colourOf r g b }
 
-abbrev pub floatsLent : ℕ → Float → Float → Float → FloatsAnswer
-floatsLent n r g b = record { number = n; floats = panelColourOf r g b }
+abbrev pub floatsLeft : ℕ → Float → Float → Float → FloatsAnswer
+floatsLeft n r g b = record { number = n; floats = panelColourOf r g b }
 
 -- The number returned, and the bytes lent for a line as the call leaves them.
-abbrev pub lineLent : ℕ → List ℕ → WriteAnswer
-lineLent n lent = record { number = n; lent = lent }
+abbrev pub lineLeft : ℕ → List ℕ → WriteAnswer
+lineLeft n left = record { number = n; left = left }
 
 -- A part of a sheet, by the two words that the call leaves.
-abbrev pub partLent : ℕ → ℕ → Part
-partLent start size = record { start = start; size = size }
+abbrev pub partLeft : ℕ → ℕ → Part
+partLeft start size = record { start = start; size = size }
 
 -- The checking call's answer as a number: 1 exactly where the tables are sound, and else 0.
-pub record CheckLent (t : Tables) (r : ℕ) : Type 0 where
+pub record CheckTold (t : Tables) (r : ℕ) : Type 0 where
   pub yes-or-no : r ≤ 1
   pub sound : r ≡ 1 → Sound current t
   pub complete : Sound current t → r ≡ 1
 
 -- A ball's or a box's answer: the number returned, the three words as the call leaves them, and the listing.
-abbrev pub listLent : ℕ → ℕ → ℕ → ℕ → List ℕ → Answer
-listLent n listed entered measured listing = listAnswer n listed (record { entered = entered; measured = measured }) listing
+abbrev pub listLeft : ℕ → ℕ → ℕ → ℕ → List ℕ → Answer
+listLeft n listed entered measured listing = listAnswer n listed (record { entered = entered; measured = measured }) listing
 
 -- Found or none, by the word that says it: 1 or 0.
 unfoldable pub isFound : ℕ → Bool
 isFound found = eqb found 1
 
 -- A nearest query's answer: the number returned, the words as the call leaves them, and any listing.
-abbrev pub nearLent : ℕ → ℕ → ℕ → ℕ → List ℕ → Answer
-nearLent n found tag distance lent = nearestAnswer n (isFound found) tag distance lent
+abbrev pub nearLeft : ℕ → ℕ → ℕ → ℕ → List ℕ → Answer
+nearLeft n found tag distance left = nearestAnswer n (isFound found) tag distance left
 
 -- A number and three words that say what a ball or a box answers, whatever its listing.
 pub record Told (a : Reply) (number listed entered measured : ℕ) : Type 0 where
-  pub number-is : (lent : List ℕ) → number ≡ replyAnswer a lent .number
-  pub listed-is : (lent : List ℕ) → listed ≡ replyAnswer a lent .listed
-  pub entered-is : (lent : List ℕ) → entered ≡ replyAnswer a lent .entered
-  pub measured-is : (lent : List ℕ) → measured ≡ replyAnswer a lent .measured
+  pub number-is : (left : List ℕ) → number ≡ replyAnswer a left .number
+  pub listed-is : (left : List ℕ) → listed ≡ replyAnswer a left .listed
+  pub entered-is : (left : List ℕ) → entered ≡ replyAnswer a left .entered
+  pub measured-is : (left : List ℕ) → measured ≡ replyAnswer a left .measured
 
 -- A number and three words that say what a nearest query answers.
 pub record ToldNear (a : Reply) (number found tag distance : ℕ) : Type 0 where
-  pub number-is : (lent : List ℕ) → number ≡ replyAnswer a lent .number
-  pub found-is : (lent : List ℕ) → isFound found ≡ replyAnswer a lent .found
-  pub tag-is : (lent : List ℕ) → tag ≡ replyAnswer a lent .tag
-  pub distance-is : (lent : List ℕ) → distance ≡ replyAnswer a lent .distance
+  pub number-is : (left : List ℕ) → number ≡ replyAnswer a left .number
+  pub found-is : (left : List ℕ) → isFound found ≡ replyAnswer a left .found
+  pub tag-is : (left : List ℕ) → tag ≡ replyAnswer a left .tag
+  pub distance-is : (left : List ℕ) → distance ≡ replyAnswer a left .distance
   pub bit : found ≤ 1

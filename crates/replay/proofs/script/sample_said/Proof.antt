@@ -1,8 +1,8 @@
--- `script::sample_in`: word by word.
-use Rattle.replay.specs.Script.{sampleIn}
+-- `script::sample_said`: word by word.
+use Rattle.replay.specs.Script.{sampleSaid}
 use borrow.Author.Needs.{needs}
-use Rattle.replay.proofs.script.sample_in.Statement.{statement}
-use Rattle.replay.proofs.script.sample_in.Tie as tie
+use Rattle.replay.proofs.script.sample_said.Statement.{statement}
+use Rattle.replay.proofs.script.sample_said.Tie as tie
 
 word-at-requires : tie.Need-word-at-requires
 word-at-requires c κs = search needs
@@ -17,7 +17,7 @@ word-at-requires-4 : tie.Need-word-at-requires-4
 word-at-requires-4 c κs = search needs
 
 returns : tie.Need-returns
-unfolding sampleIn
+unfolding sampleSaid
 returns c =
     λ i.
     record {
@@ -25,7 +25,7 @@ returns c =
       colour = record { red = c .before .before .word-at2 .ensures i; green = c .before .word-at3 .ensures i; blue = c .word-at4 .ensures i };
     }
 
-pub sample-in-spec : {M : Type 1} → statement M
-sample-in-spec =
+pub sample-said-spec : {M : Type 1} → statement M
+sample-said-spec =
     tie.close
     (tie.spec word-at-requires word-at-requires-2 word-at-requires-3 word-at-requires-4 returns)
