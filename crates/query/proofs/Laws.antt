@@ -1,3 +1,4 @@
 -- What the proofs of the calls cite.
+pub mod Machine
 pub mod Answered
 pub mod Asked

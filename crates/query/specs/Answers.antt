@@ -2,18 +2,20 @@
 -- all, by the pass or the search over them.
 use Prim.Native.Nat.{ℕ, _*_, _≤_}
 use mathlib.Core.Bool.{Bool, true, false, not}
-use mathlib.Core.List.{List}
+use mathlib.Core.List.{List, _∷_}
 use mathlib.Core.Path.{_≡_}
 use lib.ListN.{length}
 use Rattle.colour.specs.declared.Colour.{Colour}
 use Rattle.colour.specs.declared.Query.{Query}
 use Rattle.colour.specs.declared.Region.{Region}
-use Rattle.colour.specs.declared.panel.Asked.{Asked}
-use Rattle.colour.specs.declared.panel.Asked.the-variants as A
-use Rattle.colour.specs.Query.{askedOf}
+use Rattle.colour.specs.declared.panel.Wanted.{Wanted}
+use Rattle.colour.specs.declared.panel.Wanted.the-variants as W
+use Rattle.colour.specs.Query.{queryQuestions, inCodes}
+use Rattle.colour.specs.Question.{asks}
+use Rattle.colour.specs.Refusal.{refusalNumber}
 use Rattle.model.specs.Layout.{current}
 use Rattle.model.specs.Tables.{Tables}
-use Rattle.model.specs.Machine.{Ask, Answer, plain, listAnswer, nearestAnswer}
+use Rattle.model.specs.Machine.{Ask, Answer, plain, listAnswer, nearestAnswer, unlessRefused}
 use Rattle.model.specs.Sound.{longEnough}
 use Rattle.model.specs.Meets.{Meets}
 use Rattle.words.specs.Rows.{octantLimit, sampleBudget}
@@ -25,27 +27,24 @@ use Rattle.query.specs.declared.answers.Report.{Report}
 use Rattle.query.specs.declared.answers.Reply.{Reply}
 use Rattle.query.specs.declared.answers.Reply.the-variants as R
 
--- The paper's number and values for each case; `lent` is the listing as it is left. Questions 1, 9 and 13.
+-- The paper's number and values for each case, with the listing as it is left.
 unfoldable pub replyAnswer : Reply → List ℕ → Answer
-replyAnswer (R.Listed listed entered measured) lent = listAnswer 0 listed (record { entered = entered; measured = measured }) lent
-replyAnswer (R.Found tag distance) lent = nearestAnswer 0 true tag distance lent
-replyAnswer R.Nothing lent = nearestAnswer 0 false 0 0 lent
-replyAnswer R.TooShort lent = plain 1 lent
-replyAnswer R.NotQuery lent = plain 9 lent
-replyAnswer R.NoRoom lent = plain 13 lent
+replyAnswer (R.Listed listed entered measured) left = listAnswer 0 listed (record { entered = entered; measured = measured }) left
+replyAnswer (R.Found tag distance) left = nearestAnswer 0 true tag distance left
+replyAnswer R.Nothing left = nearestAnswer 0 false 0 0 left
+replyAnswer (R.Refused r) left = plain (refusalNumber r) left
 
 -- Whether a reply is one of a query that lists, or else of a nearest query: what is listed is told apart from what is found, and from none found.
+-- Both refuse. (A nearest query's number is never 13, by `meets` of `AskMeets`.)
 unfoldable pub ofKind : Bool → Reply → Bool
 ofKind lists (R.Listed listed entered measured) = lists
 ofKind lists (R.Found tag distance) = not lists
 ofKind lists R.Nothing = not lists
-ofKind lists R.TooShort = true
-ofKind lists R.NotQuery = true
-ofKind lists R.NoRoom = lists
+ofKind lists (R.Refused r) = true
 
 -- The answer that a report says, with a listing as it is left.
 unfoldable pub reportAnswer : Report → List ℕ → Answer
-reportAnswer r lent =
+reportAnswer r left =
     record {
       number = r .number;
       taken = 0;
@@ -55,21 +54,21 @@ reportAnswer r lent =
       found = r .found;
       tag = r .tag;
       distance = r .distance;
-      listing = lent;
+      listing = left;
     }
 
--- A query that is taken apart, on any words, or refused by question 9.
-unfoldable pub rawAsked : Tables → Asked → List ℕ → Answer
-rawAsked t (A.List R) lent = passAnswer (passOf (t .samples) (t .octants) R) lent
-rawAsked t (A.Nearest c r) lent = bestAnswer (r * r) (searchAll (t .samples) (t .octants) c r .best) lent
-rawAsked t A.Refused lent = plain 9 lent
+-- What a query answers on any words that wants this: by the pass, with question 13, or by the search.
+unfoldable pub rawWanted : Tables → Wanted → List ℕ → Answer
+rawWanted t (W.Listed R) listing = passAnswer (passOf (t .samples) (t .octants) R) listing
+rawWanted t (W.Nearest c r) listing = bestAnswer (r * r) (searchAll (t .samples) (t .octants) c r .best) listing
 
--- Question 1, and then that: the answer of a query on any words at all.
+-- Questions 1 and 9, and then that: the answer of a query on any words at all.
 unfoldable pub rawAnswer : Tables → Query → List ℕ → Answer
-rawAnswer t q lent = elim (longEnough current t) [ true ↦ rawAsked t (askedOf q) lent | false ↦ plain 1 lent ]
+rawAnswer t q listing = unlessRefused (asks 1 (longEnough current t) ∷ queryQuestions q) listing (rawWanted t (inCodes q) listing)
 
--- What a query needs on any words at all, and what the pass and the search that name its answer cost.
-pub record Bounds (lent : List ℕ) (t : Tables) (a : Answer) : Type 0 where
+-- Bounds on any words at all. They are of the answer, and of the pass or the search that it is named by: no contract speaks of the time that the code
+-- takes, or of what it reads.
+pub record Bounds (listing : List ℕ) (t : Tables) (a : Answer) : Type 0 where
   -- no more octants entered than the octant table counts and has
   pub entered : a .entered ≤ octantLimit current (t .octants)
   -- no more samples listed or measured than the sample table counts and has
@@ -81,10 +80,11 @@ pub record Bounds (lent : List ℕ) (t : Tables) (a : Answer) : Type 0 where
   pub searched : (c : Colour) (r : ℕ) → searchAll (t .samples) (t .octants) c r .visited ≤ sampleBudget current (t .samples)
   pub reached : (c : Colour) (r : ℕ) → searchAll (t .samples) (t .octants) c r .entered ≤ octantLimit current (t .octants)
   -- a listing that long is never too short
-  pub room : sampleBudget current (t .samples) ≤ length lent → a .number ≡ 13 → ⊥
+  pub room : sampleBudget current (t .samples) ≤ length listing → a .number ≡ 13 → ⊥
 
--- The contract of a query, whose tables are only read: what document 01 says of the call; the answer and the listing, named on any words; and the bounds.
-pub record AskMeets (q : Query) (lent : List ℕ) (t : Tables) (a : Answer) : Type 0 where
-  pub meets : Meets (Ask q lent) t a t
-  pub named : a ≡ rawAnswer t q lent
-  pub bounds : Bounds lent t a
+-- The contract of a query, whose tables are only read.
+pub record AskMeets (q : Query) (listing : List ℕ) (t : Tables) (a : Answer) : Type 0 where
+  -- what document 01 says of the call; on sound tables this alone fixes the answer, as question 2's freedom is for unsound ones
+  pub meets : Meets (Ask q listing) t a t
+  -- the answer, with the listing as it is left, named on any words at all
+  pub named : a ≡ rawAnswer t q listing

@@ -1,4 +1,6 @@
 // What a query answers, and the paper's numbers and values for it.
+use colour::refusal::Refusal;
+use colour::refusal::number_of;
 use listing::list::Listed;
 use nearest::best::Best;
 ghost use mathlib.Core.Bool.{true, false};
@@ -9,15 +11,13 @@ ghost use Rattle.listing.specs.Answers.{listedAnswer};
 ghost use Rattle.nearest.specs.Best.{bestAnswer};
 ghost use Rattle.query.specs.Answers.{replyAnswer, ofKind, reportAnswer};
 
-// What became of a query: all were listed, so many, with octants entered and samples measured; one was found, its tag and d², or none; or a refusal
-// by 1, 9 or 13.
+// What became of a query: all were listed, so many, with octants entered and samples measured; one was found, its tag and d², or none; or a
+// refusal by 1, 9 or 13.
 pub enum Reply {
     Listed(u32, u32, u32),
     Found(u32, u64),
     Nothing,
-    TooShort,
-    NotQuery,
-    NoRoom,
+    Refused(Refusal),
 }
 
 // The number, and all that is reported.
@@ -48,7 +48,7 @@ fn plain(number: u32) -> Report
 
 // What a query reports, whatever its listing.
 pub fn report_of(reply: Reply) -> Report
-    ensures { λ r. ⌜ ((lent : List ℕ) → reportAnswer r lent ≡ replyAnswer reply lent) ⌝ }
+    ensures { λ r. ⌜ ((left : List ℕ) → reportAnswer r left ≡ replyAnswer reply left) ⌝ }
 {
     match reply {
         Reply::Listed(listed, entered, measured) => Report {
@@ -70,26 +70,24 @@ pub fn report_of(reply: Reply) -> Report
             distance,
         },
         Reply::Nothing => plain(0),
-        Reply::TooShort => plain(1),
-        Reply::NotQuery => plain(9),
-        Reply::NoRoom => plain(13),
+        Reply::Refused(refusal) => plain(number_of(refusal)),
     }
 }
 
 // A listing's answer.
 pub fn of_listed(listed: Listed) -> Reply
-    ensures is { λ r. ⌜ ((lent : List ℕ) → replyAnswer r lent ≡ listedAnswer listed lent) ⌝ }
+    ensures is { λ r. ⌜ ((left : List ℕ) → replyAnswer r left ≡ listedAnswer listed left) ⌝ }
     ensures kind { λ r. ⌜ ofKind true r ≡ true ⌝ }
 {
     match listed {
         Listed::All(listed, entered, measured) => Reply::Listed(listed, entered, measured),
-        Listed::NoRoom => Reply::NoRoom,
+        Listed::Refused(refusal) => Reply::Refused(refusal),
     }
 }
 
 // The answer of a search that began with a limit.
 pub fn of_best(best: Best, limit: u64) -> Reply
-    ensures is { λ r. ⌜ ((lent : List ℕ) → replyAnswer r lent ≡ bestAnswer limit best lent) ⌝ }
+    ensures is { λ r. ⌜ ((left : List ℕ) → replyAnswer r left ≡ bestAnswer limit best left) ⌝ }
     ensures kind { λ r. ⌜ ofKind false r ≡ true ⌝ }
 {
     if limit <= best.distance {

@@ -6,7 +6,9 @@ use colour::PanelColour;
 use colour::Query;
 use colour::distance::square;
 use colour::panel::Asked;
+use colour::panel::Wanted;
 use colour::panel::asked_of;
+use colour::refusal::Refusal;
 use listing::list::list;
 use nearest::visit::nearest as nearest_code;
 use words::layout::long_enough;
@@ -14,25 +16,28 @@ ghost use mathlib.Core.Bool.{true, false};
 ghost use mathlib.Core.List.{List};
 ghost use mathlib.Core.Path.{_≡_};
 ghost use Prim.Native.Nat.{ℕ};
-ghost use Rattle.model.specs.Tables.{pair};
+ghost use Rattle.model.specs.Tables.{tablesLent};
 ghost use Rattle.model.specs.Meets.{lists};
-ghost use Rattle.query.specs.Answers.{replyAnswer, ofKind, AskMeets};
+ghost use Rattle.query.specs.Answers.{replyAnswer, ofKind, Bounds, AskMeets};
 
 // The query entry: an exported call. Questions 1 and 9, and then the listing or the search. A nearest query leaves the listing as it is.
 pub fn ask(samples: &[u32], octants: &[u32], query: Query, listing: &mut [u32]) -> Reply
-    ensures meets { λ r. ⌜ AskMeets query (now (listing .entry)) (pair (now (samples .entry)) (now (octants .entry))) (replyAnswer r (now (listing .exit))) ⌝ }
+    ensures meets { λ r. ⌜ AskMeets query (now (listing .entry)) (tablesLent samples octants) (replyAnswer r (now (listing .exit))) ⌝ }
+    ensures bounds { λ r. ⌜ Bounds (now (listing .entry)) (tablesLent samples octants) (replyAnswer r (now (listing .exit))) ⌝ }
     ensures kind { λ r. ⌜ ofKind (lists query) r ≡ true ⌝ }
 {
     if !long_enough(samples.len(), octants.len()) {
-        return Reply::TooShort;
+        return Reply::Refused(Refusal::TooShort);
     }
     match asked_of(query) {
-        Asked::List(region) => of_listed(list(samples, octants, region, listing)),
-        Asked::Nearest(centre, radius) => of_best(
-            nearest_code(samples, octants, centre, radius),
-            square(radius),
-        ),
-        Asked::Refused => Reply::NotQuery,
+        Asked::For(wanted) => match wanted {
+            Wanted::Listed(region) => of_listed(list(samples, octants, region, listing)),
+            Wanted::Nearest(centre, radius) => of_best(
+                nearest_code(samples, octants, centre, radius),
+                square(radius),
+            ),
+        },
+        Asked::Refused(refusal) => Reply::Refused(refusal),
     }
 }
 
@@ -44,7 +49,9 @@ pub fn ball(
     radius: f32,
     listing: &mut [u32],
 ) -> Reply
-    ensures meets { λ r. ⌜ AskMeets (Query.Ball centre radius) (now (listing .entry)) (pair (now (samples .entry)) (now (octants .entry))) (replyAnswer r (now (listing .exit))) ⌝ }
+    ensures meets { λ r. ⌜ AskMeets
+        (Query.Ball centre radius) (now (listing .entry)) (tablesLent samples octants) (replyAnswer r (now (listing .exit))) ⌝ }
+    ensures bounds { λ r. ⌜ Bounds (now (listing .entry)) (tablesLent samples octants) (replyAnswer r (now (listing .exit))) ⌝ }
     ensures kind { λ r. ⌜ ofKind true r ≡ true ⌝ }
 {
     ask(samples, octants, Query::Ball(centre, radius), listing)
@@ -58,7 +65,9 @@ pub fn boxed(
     high: PanelColour,
     listing: &mut [u32],
 ) -> Reply
-    ensures meets { λ r. ⌜ AskMeets (Query.Box low high) (now (listing .entry)) (pair (now (samples .entry)) (now (octants .entry))) (replyAnswer r (now (listing .exit))) ⌝ }
+    ensures meets { λ r. ⌜ AskMeets
+        (Query.Box low high) (now (listing .entry)) (tablesLent samples octants) (replyAnswer r (now (listing .exit))) ⌝ }
+    ensures bounds { λ r. ⌜ Bounds (now (listing .entry)) (tablesLent samples octants) (replyAnswer r (now (listing .exit))) ⌝ }
     ensures kind { λ r. ⌜ ofKind true r ≡ true ⌝ }
 {
     ask(samples, octants, Query::Box(low, high), listing)
@@ -66,7 +75,9 @@ pub fn boxed(
 
 // Nearest: an exported call. It uses no listing, so it promises its answer with any; the word that it lends the entry stays as it is.
 pub fn nearest(samples: &[u32], octants: &[u32], centre: PanelColour, radius: f32) -> Reply
-    ensures meets { λ r. ⌜ ((lent : List ℕ) → AskMeets (Query.Nearest centre radius) lent (pair (now (samples .entry)) (now (octants .entry))) (replyAnswer r lent)) ⌝ }
+    ensures meets { λ r. ⌜ ((listing : List ℕ) → AskMeets
+        (Query.Nearest centre radius) listing (tablesLent samples octants) (replyAnswer r listing)) ⌝ }
+    ensures bounds { λ r. ⌜ ((listing : List ℕ) → Bounds listing (tablesLent samples octants) (replyAnswer r listing)) ⌝ }
     ensures kind { λ r. ⌜ ofKind false r ≡ true ⌝ }
 {
     let mut word = [0u32; 1];
