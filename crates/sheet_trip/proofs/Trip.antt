@@ -11,14 +11,15 @@ use lib.Seq.{take-all}
 use borrow.Author.Tests.{eq-eqb, ne-eqb, lt-ltb, le-leb}
 use borrow.Rule.Slice.PartMut.{putMid}
 use Rattle.colour.specs.declared.Sample.{Sample}
+use Rattle.colour.specs.declared.refusal.Refusal.{Refusal}
 use Rattle.colour.specs.Colour.{Channel, codeIn, each, isTag, codesFit}
 use Rattle.colour.specs.Question.{firstNo}
 use Rattle.colour.proofs.Laws.Channels.{each-every, each-no}
 use Rattle.sheet.specs.declared.line.Line.{Line}
 use Rattle.sheet.specs.declared.line.Reading.the-variants as R
 use Rattle.sheet.specs.declared.writer.Written.{Written}
-use Rattle.sheet.specs.Answers.{lineAnswer, written, writtenNumber}
-use Rattle.sheet.specs.Line.{LineAnswer, WriteAnswer, nameStart, newlineAt, lineLength, nameGood, lineOf, readLine, writeNumber, writeLine}
+use Rattle.sheet.specs.Answers.{lineAnswer, writtenAnswer, writtenNumber}
+use Rattle.sheet.specs.Line.{LineAnswer, WriteAnswer, nameStart, newlineAt, lineLength, nameGood, lineOf, lineAsked, readLine, writeNumber, writeLine}
 use Rattle.sheet.specs.Sheet.{sameBytes}
 use Rattle.sheet.proofs.Laws.Names.{name-good}
 use Rattle.sheet.proofs.Laws.Parts.{part-tail, put-tail}
@@ -67,14 +68,14 @@ pub record Stands (s : Sample) (name left : List ℕ) : Type 0 where
   pub bytes : take (length name) (drop nameStart left) ≡ name
 
 -- The writer's answer, over as many bytes as a line has.
-module _ (s : Sample) (name lent left : List ℕ) (w : Written) (room : length lent ≡ lineLength) (said : written w left ≡ writeLine s name lent) where
+module _ (s : Sample) (name lent left : List ℕ) (w : Written) (room : length lent ≡ lineLength) (said : writtenAnswer w left ≡ writeLine s name lent) where
   number-is : writtenNumber w ≡ writeLine s name lent .number
-  unfolding written
+  unfolding writtenAnswer
   number-is = ap (λ (a : WriteAnswer). a .number) said
 
-  left-is : left ≡ writeLine s name lent .lent
-  unfolding written
-  left-is = ap (λ (a : WriteAnswer). a .lent) said
+  left-is : left ≡ writeLine s name lent .left
+  unfolding writtenAnswer
+  left-is = ap (λ (a : WriteAnswer). a .left) said
 
   -- It refuses only where the sample has no codes or the name is not good.
   pub none-written : (writtenNumber w ≡ 0 → ⊥) → false ≡ (codesFit (s .colour) && nameGood name)
@@ -105,16 +106,16 @@ pub record Back (s : Sample) (name left : List ℕ) (l : Line) : Type 0 where
 
 -- A line that stands reads as good, and what is read comes back.
 module _ (s : Sample) (name left : List ℕ) (stands : Stands s name left) where
-  pub never-bad : lineAnswer R.NotGood ≡ readLine left → ⊥
-  unfolding lineAnswer readLine
-  never-bad read =
+  pub never-refused : (r : Refusal) → lineAnswer (R.Refused r) ≡ readLine left → ⊥
+  unfolding lineAnswer readLine lineAsked
+  never-refused r read =
       let e : none ≡ lineOf left = ap (λ (a : LineAnswer). a .line) read in
       let z : _≡_ {A = ℕ} 0 1 = cc (stands .line) in
       omega arith
 
   module _ (l : Line) (read : lineAnswer (R.Good l) ≡ readLine left) where
     line-is : l ≡ record { sample = s; «name_length» = length name }
-    unfolding lineAnswer readLine
+    unfolding lineAnswer readLine lineAsked
     line-is = let e : some l ≡ lineOf left = ap (λ (a : LineAnswer). a .line) read in cc (stands .line)
 
     length-is : l .«name_length» ≡ length name
@@ -133,9 +134,10 @@ module _ (s : Sample) (name left : List ℕ) (stands : Stands s name left) where
         }
 
 -- A line written over the bytes of a sheet from byte `at` on, which were lent and come back.
-pub line-put : (at : ℕ) (sheet name t : List ℕ) (s : Sample) (w : Written) → written w t ≡ writeLine s name (take (length sheet - at) (drop at sheet))
-    → putMid at (length sheet - at) sheet t ≡ take at sheet ++ writeLine s name (drop at sheet) .lent
-unfolding written
+pub line-put : (at : ℕ) (sheet name t : List ℕ) (s : Sample) (w : Written)
+    → writtenAnswer w t ≡ writeLine s name (take (length sheet - at) (drop at sheet))
+    → putMid at (length sheet - at) sheet t ≡ take at sheet ++ writeLine s name (drop at sheet) .left
+unfolding writtenAnswer
 line-put at sheet name t s w said =
-    let is : t ≡ writeLine s name (drop at sheet) .lent = ap (λ (a : WriteAnswer). a .lent) said ∙ rw (part-tail sheet at) in
+    let is : t ≡ writeLine s name (drop at sheet) .left = ap (λ (a : WriteAnswer). a .left) said ∙ rw (part-tail sheet at) in
     put-tail at sheet t ∙ rw is

@@ -78,7 +78,8 @@ fn print_name(sheet: &[u8], tag: u32) {
 // Writes a line into a sheet, from byte `at` on.
 fn put_line_at(sheet: &mut [u8], at: usize, sample: Sample, name: &[u8])
     requires { ⌜ at ≤ length (now sheet) ⌝ }
-    ensures { λ _. ⌜ now (sheet .exit) ≡ take at (now (sheet .entry)) ++ writeLine sample (now (name .entry)) (drop at (now (sheet .entry))) .lent ⌝ }
+    ensures { λ _. ⌜ now (sheet .exit)
+        ≡ take at (now (sheet .entry)) ++ writeLine sample (now (name .entry)) (drop at (now (sheet .entry))) .left ⌝ }
 {
     write_line(sample, name, &mut sheet[at..]);
 }

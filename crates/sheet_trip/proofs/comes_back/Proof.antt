@@ -7,7 +7,7 @@ use borrow.Author.Tests.{not-true}
 use Rattle.sheet.specs.Answers.{lineAnswer, writtenNumber}
 use Rattle.sheet.specs.Computes.{sheetNumbers}
 use Rattle.sheet.proofs.Laws.Writing.Lines.{refused}
-use Rattle.sheet_trip.proofs.Trip.{Stands, Back, none-written, line-written, never-bad, reads-back}
+use Rattle.sheet_trip.proofs.Trip.{Stands, Back, none-written, line-written, never-refused, reads-back}
 use Rattle.sheet_trip.proofs.comes_back.Statement.{statement}
 use Rattle.sheet_trip.proofs.comes_back.Tie as tie
 
@@ -20,17 +20,20 @@ write-line-requires c κs = search needs
 enum-told : tie.Need-enum-told
 enum-told c = search needs
 
+enum-told-2 : tie.Need-enum-told-2
+enum-told-2 c = search needs
+
 returns : tie.Need-returns
 unfolding sheetNumbers
 returns c =
-    let d = c .before .before in
-    none-written _ _ _ _ _ refl (d .write-line .ensures) (refused _ (c .match .keys2))
+    let d = c .before .before .before in
+    none-written _ _ _ _ _ refl (d .write-line .ensures) (refused _ _ (c .enum-told2 .given .1))
 
 -- After the writer has accepted, the line stands.
 stands : (c : tie.After-enum-told) → let d = c .before .before .before in
     let a = d .before .before .before .args in
     Stands (a .sample) (a .name .now) (d .write-line .last .1 .1 .0)
-unfolding writtenNumber sheetNumbers
+unfolding sheetNumbers
 stands c =
     let d = c .before .before .before in
     line-written _ _ _ _ _ refl (d .write-line .ensures) (ap writtenNumber (c .enum-told .given .1)) (d .write-line .kept .1 .1 .0)
@@ -45,14 +48,13 @@ read-line-requires c κs = search needs
 enum-known-read : tie.Need-enum-known-read
 enum-known-read c = search needs
 
-enum-told-2 : tie.Need-enum-told-2
-enum-told-2 c = search needs
+enum-told-3 : tie.Need-enum-told-3
+enum-told-3 c = search needs
 
 returns-2 : tie.Need-returns-2
-unfolding lineAnswer
 returns-2 c =
     let d = c .before .before in
-    absurd (never-bad _ _ _ (stands (d .before .before)) (ap lineAnswer (sym (c .enum-told2 .given .1)) ∙ d .read-line .ensures))
+    absurd (never-refused _ _ _ (stands (d .before .before)) _ (ap lineAnswer (sym (c .enum-told3 .given .1)) ∙ d .read-line .ensures))
 
 -- What is read from it comes back.
 back : (c : tie.After-read) → let d = c .before .before .before .before .before .before .before in
@@ -101,11 +103,12 @@ comes-back-spec =
     slice-aggregate-write-line
     write-line-requires
     enum-told
+    enum-told-2
     returns
     slice-aggregate-read-line
     read-line-requires
     enum-known-read
-    enum-told-2
+    enum-told-3
     returns-2
     same-sample-requires
     returns-3
