@@ -1,53 +1,13 @@
--- `hbx_rebuild`: questions 1, 3 and 6, then the rows.
+-- `hbx_rebuild`: the number of what the rebuild came to.
 use borrow.Author.Needs.{needs}
-use mathlib.Core.Path.{sym, _∙_}
-use native.Mathlib.Omega.{arith}
-use Rattle.model.specs.Sound.{longEnough}
-use borrow.Author.Tests.{not-true, not-false}
-use Rattle.rebuild.proofs.Laws.Asked.{says-1, says-3, says-6, spaced, then-told}
 use Rattle.rebuild.proofs.hbx_rebuild.Statement.{statement}
 use Rattle.rebuild.proofs.hbx_rebuild.Tie as tie
 
-long-enough-requires : tie.Need-long-enough-requires
-long-enough-requires c κs = search needs
+rebuild-tables-requires : tie.Need-rebuild-tables-requires
+rebuild-tables-requires c κs = search needs
 
-returns : tie.Need-returns
-unfolding longEnough
-returns c = says-1 _ _ _ _ (sym (c .before .long-enough .ensures) ∙ not-true _ (c .if1 .taken))
-
-bucket-fits-requires : tie.Need-bucket-fits-requires
-bucket-fits-requires c κs = search needs
-
-returns-2 : tie.Need-returns-2
-unfolding longEnough
-returns-2 c =
-    let i = c .before .before in
-    says-3 _ _ _ _ (sym (i .before .long-enough .ensures) ∙ not-false _ (i .if1 .left)) (sym (c .before .bucket-fits .ensures) ∙ not-true _ (c .if2 .taken))
-
-sample-rows-requires : tie.Need-sample-rows-requires
-sample-rows-requires c κs = search needs
-
-returns-3 : tie.Need-returns-3
-unfolding longEnough
-returns-3 c =
-    let k = c .before .before in
-    let i = k .before .before in
-    says-6 _ _ _ _
-    (sym (i .before .long-enough .ensures) ∙ not-false _ (i .if1 .left))
-    (sym (k .before .bucket-fits .ensures) ∙ not-false _ (k .if2 .left))
-    (omega (arith, c .before .sample-rows .ensures .0, c .if3 .taken))
-
-rebuild-requires : tie.Need-rebuild-requires
-unfolding longEnough
-rebuild-requires c κs =
-    let d = c .before .before in
-    let k = d .before .before in
-    let i = k .before .before in
-    let s = i .before .before .before .before in
-    spaced (s .args .bucket) (s .args .n) (s .args .samples .now) (s .args .octants .now)
-    (sym (i .before .long-enough .ensures) ∙ not-false _ (i .if1 .left))
-    (sym (k .before .bucket-fits .ensures) ∙ not-false _ (k .if2 .left))
-    (omega (arith, d .before .sample-rows .ensures .0, d .if3 .left))
+number-of-requires : tie.Need-number-of-requires
+number-of-requires c κs = search needs
 
 same-length : tie.Need-same-length
 same-length c = search needs
@@ -55,31 +15,10 @@ same-length c = search needs
 same-length-2 : tie.Need-same-length-2
 same-length-2 c = search needs
 
-returns-4 : tie.Need-returns-4
-unfolding longEnough
-returns-4 c =
-    let d = c .before .before .before .before .before .before .before in
-    let k = d .before .before in
-    let i = k .before .before in
-    let s = i .before .before .before .before in
-    then-told (s .args .bucket) (s .args .n) (s .args .samples .now) (s .args .octants .now)
-    (sym (i .before .long-enough .ensures) ∙ not-false _ (i .if1 .left))
-    (sym (k .before .bucket-fits .ensures) ∙ not-false _ (k .if2 .left))
-    (omega (arith, d .before .sample-rows .ensures .0, d .if3 .left))
-    _ _
-    (c .before .before .before .before .rebuild .ensures)
+returns : tie.Need-returns
+returns c = rw (c .number-of .ensures) (c .before .before .before .before .before .rebuild-tables .ensures)
 
 pub hbx-rebuild-spec : {M : Type 1} → statement M
 hbx-rebuild-spec =
     tie.close
-    (tie.spec
-    long-enough-requires
-    returns
-    bucket-fits-requires
-    returns-2
-    sample-rows-requires
-    returns-3
-    rebuild-requires
-    same-length
-    same-length-2
-    returns-4)
+    (tie.spec rebuild-tables-requires number-of-requires same-length same-length-2 returns)
