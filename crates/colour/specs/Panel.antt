@@ -77,9 +77,7 @@ pub record CodesAnswer : Type 0 where
 
 -- Question 9: the channels as above? Then the codes; on a refusal they are 0.
 unfoldable pub floatsToCodes : PanelColour → CodesAnswer
-floatsToCodes p =
-    let n : ℕ = firstNo (asks 9 (panelGood p) ∷ []) in
-    record { number = n; codes = elim (eqb n 0) [ true ↦ codesOf p | false ↦ black ] }
+floatsToCodes p = record { number = firstNo (asks 9 (panelGood p) ∷ []); codes = elim (panelGood p) [ true ↦ codesOf p | false ↦ black ] }
 
 -- The paper's number and values for each case of the enum that answers it.
 unfoldable pub codesAnswer : Codes → CodesAnswer
@@ -93,9 +91,7 @@ pub record FloatsAnswer : Type 0 where
 
 -- Question 4: codes up to 65,535? Then the floats; on a refusal they are 0.
 unfoldable pub codesToFloats : Colour → FloatsAnswer
-codesToFloats c =
-    let n : ℕ = firstNo (asks 4 (codesFit c) ∷ []) in
-    record { number = n; floats = elim (eqb n 0) [ true ↦ shownColour c | false ↦ shownColour black ] }
+codesToFloats c = record { number = firstNo (asks 4 (codesFit c) ∷ []); floats = shownColour (elim (codesFit c) [ true ↦ c | false ↦ black ]) }
 
 -- The paper's number and values for each case of the enum that answers it.
 unfoldable pub floatsAnswer : Floats → FloatsAnswer

@@ -13,9 +13,6 @@ use Rattle.query.specs.declared.answers.Reply.{Reply}
 use Rattle.query.specs.Answers.{replyAnswer}
 use Rattle.sheet.specs.declared.lookup.Part.{Part}
 use Rattle.sheet.specs.Line.{WriteAnswer}
-use Rattle.model.specs.Layout.{current}
-use Rattle.model.specs.Tables.{Tables}
-use Rattle.model.specs.Sound.{Sound}
 use Rattle.model.specs.Machine.{Answer, listAnswer, nearestAnswer}
 
 -- A colour from three numbers, and a panel colour from three floats.
@@ -44,23 +41,17 @@ lineLeft n left = record { number = n; left = left }
 abbrev pub partLeft : ℕ → ℕ → Part
 partLeft start size = record { start = start; size = size }
 
--- The checking call's answer as a number: 1 exactly where the tables are sound, and else 0.
-pub record CheckTold (t : Tables) (r : ℕ) : Type 0 where
-  pub yes-or-no : r ≤ 1
-  pub sound : r ≡ 1 → Sound current t
-  pub complete : Sound current t → r ≡ 1
-
 -- A ball's or a box's answer: the number returned, the three words as the call leaves them, and the listing.
 abbrev pub listLeft : ℕ → ℕ → ℕ → ℕ → List ℕ → Answer
 listLeft n listed entered measured listing = listAnswer n listed (record { entered = entered; measured = measured }) listing
 
--- Found or none, by the word that says it: 1 or 0.
-unfoldable pub isFound : ℕ → Bool
-isFound found = eqb found 1
+-- Yes or no by the number that says it: 1 or 0.
+unfoldable pub isYes : ℕ → Bool
+isYes n = eqb n 1
 
 -- A nearest query's answer: the number returned, the words as the call leaves them, and any listing.
 abbrev pub nearLeft : ℕ → ℕ → ℕ → ℕ → List ℕ → Answer
-nearLeft n found tag distance left = nearestAnswer n (isFound found) tag distance left
+nearLeft n found tag distance left = nearestAnswer n (isYes found) tag distance left
 
 -- A number and three words that say what a ball or a box answers, whatever its listing.
 pub record Told (a : Reply) (number listed entered measured : ℕ) : Type 0 where
@@ -72,7 +63,7 @@ pub record Told (a : Reply) (number listed entered measured : ℕ) : Type 0 wher
 -- A number and three words that say what a nearest query answers.
 pub record ToldNear (a : Reply) (number found tag distance : ℕ) : Type 0 where
   pub number-is : (left : List ℕ) → number ≡ replyAnswer a left .number
-  pub found-is : (left : List ℕ) → isFound found ≡ replyAnswer a left .found
+  pub found-is : (left : List ℕ) → isYes found ≡ replyAnswer a left .found
   pub tag-is : (left : List ℕ) → tag ≡ replyAnswer a left .tag
   pub distance-is : (left : List ℕ) → distance ≡ replyAnswer a left .distance
   pub bit : found ≤ 1

@@ -15,10 +15,10 @@ ghost use Rattle.sheet.specs.Line.{writeLine};
 ghost use Rattle.sheet.specs.Sheet.{namePart};
 ghost use Rattle.model.specs.Tables.{tablesLent, tablesLeft};
 ghost use Rattle.model.specs.Machine.{Clear, Change, Add, Remove, Load, plain, loadAnswer};
-ghost use Rattle.model.specs.Meets.{Meets};
+ghost use Rattle.model.specs.Meets.{Meets, CheckMeets};
 ghost use Rattle.query.specs.Answers.{AskMeets, Bounds};
 ghost use Rattle.hubeltxa.specs.Left.{colourOf, panelColourOf, sampleOf, codesLeft, floatsLeft, lineLeft, partLeft};
-ghost use Rattle.hubeltxa.specs.Left.{CheckTold, listLeft, isFound, nearLeft, Told, ToldNear};
+ghost use Rattle.hubeltxa.specs.Left.{listLeft, isYes, nearLeft, Told, ToldNear};
 
 // Floats to codes.
 #[no_mangle]
@@ -239,12 +239,12 @@ pub extern "C" fn hbx_box(
     tell(reply, listed, entered, measured)
 }
 
-// Whether one was found, as a number.
-fn found_or_none(found: bool) -> u32
-    ensures is { λ r. ⌜ isFound r ≡ found ⌝ }
+// Yes or no, as a number.
+fn yes_or_no(yes: bool) -> u32
+    ensures is { λ r. ⌜ isYes r ≡ yes ⌝ }
     ensures bit { λ r. ⌜ r ≤ 1 ⌝ }
 {
-    if found { 1 } else { 0 }
+    if yes { 1 } else { 0 }
 }
 
 // What a nearest query answers: the number is returned, and what was found goes to the words lent for it.
@@ -252,7 +252,7 @@ fn tell_near(reply: Reply, found: &mut u32, tag: &mut u32, distance: &mut u64) -
     ensures { λ r. ⌜ ToldNear reply r (now (found .exit)) (now (tag .exit)) (now (distance .exit)) ⌝ }
 {
     let near = query::answers::report_of(reply);
-    *found = found_or_none(near.found);
+    *found = yes_or_no(near.found);
     *tag = near.tag;
     *distance = near.distance;
     near.number
@@ -283,18 +283,11 @@ pub extern "C" fn hbx_near(
     tell_near(reply, found, tag, distance)
 }
 
-// What the checking call says.
-const YES: u32 = 1;
-
-const NO: u32 = 0;
-
 // Whether the tables are those of some set.
 #[no_mangle]
 pub extern "C" fn hbx_check(samples: &[u32], octants: &[u32]) -> u32
-    ensures { λ r. ⌜ CheckTold (tablesLent samples octants) r ⌝ }
+    ensures meets { λ r. ⌜ CheckMeets (tablesLent samples octants) (isYes r) ⌝ }
+    ensures bit { λ r. ⌜ r ≤ 1 ⌝ }
 {
-    if octree::tables::check(samples, octants) {
-        return YES;
-    }
-    NO
+    yes_or_no(octree::tables::check(samples, octants))
 }

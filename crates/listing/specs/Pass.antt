@@ -13,8 +13,8 @@ use Rattle.colour.specs.Colour.{black, wrapped}
 use Rattle.colour.specs.Octant.{depths, children, childLow}
 use Rattle.colour.specs.Region.{holds, overlaps, inside}
 use Rattle.model.specs.Lists.{keep}
-use Rattle.model.specs.Layout.{Tag, Count, Child, current}
-use Rattle.words.specs.Rows.{settingsIn, sampleField, sampleIn, octantField, octantLimit}
+use Rattle.model.specs.Layout.{Bucket, Tag, Count, Child, current}
+use Rattle.words.specs.Rows.{settingIn, sampleField, sampleIn, octantField, octantLimit}
 use Rattle.traversal.specs.Own.{ownRows, endsAt}
 
 -- What a pass has counted: octants entered, samples measured, and all samples visited, measured or taken whole. `next` is the least octant row
@@ -85,7 +85,7 @@ childVisit os R below s row low k t =
 
 -- Whether the octant in a row, of side 2 ^ j at low, is gone through sample by sample.
 unfoldable pub ends : List ℕ → List ℕ → Region → ℕ → ℕ → Colour → Bool
-ends ws os R j row low = endsAt j (inside R (2 ^ j) low) (octantField current os row Count) (settingsIn current ws .bucket)
+ends ws os R j row low = endsAt j (inside R (2 ^ j) low) (octantField current os row Count) (settingIn current ws Bucket)
 
 -- The octant in a row, of side 2 ^ j at low, is entered: its own samples are visited, or its children in turn.
 unfoldable pub visitOf : List ℕ → List ℕ → Region → ℕ → ℕ → Colour → Tally → Visit

@@ -8,8 +8,8 @@ use Rattle.model.specs.Tables.{firstRow, lastRow, nextRow, settingWord, 
 use Rattle.model.specs.Tables.{octantWord, octantRow, octantRowsOf, octantWords, tablesFor}
 use Rattle.model.specs.Queries.{listed, noCounts, totalCounts, measureAll, enter, visit, counts, orElse, nearestIn, nearest}
 use Rattle.model.specs.Machine.{tablesOf, lent, loadAnswer, listAnswer, nearestAnswer, plain, unlessRefused, withSet, withSamples, emptySet, added, removed, hasTag}
-use Rattle.model.specs.Machine.{fitQuestions, newQuestions, lineQuestions, roomQuestions, wantedQuestions, clearQuestions, questions, done}
-use Rattle.model.specs.Machine.{loadLines, load, foundAnswer, listingAnswer, wantedAnswer, accepted, step, nextState, startOn, start}
+use Rattle.model.specs.Machine.{fitQuestions, newQuestions, lineQuestions, roomQuestions, wantedQuestions, clearQuestions, questions}
+use Rattle.model.specs.Machine.{loaded, loadLines, foundAnswer, listingAnswer, wantedAnswer, accepted, refusal, step, nextState, startOn, start}
 use Rattle.model.specs.Sound.{longEnough}
 use Rattle.model.specs.Walklist.{walklistStart, tagLines, refusedLine, printedAfter, walklistPrints}
 
@@ -20,7 +20,7 @@ unfolding sheetComputes ofBits round keep joined total padded settingsGood place
     octantWord octantRow octantRowsOf octantWords tablesFor
     listed noCounts totalCounts measureAll enter visit counts orElse nearestIn nearest
     tablesOf lent loadAnswer listAnswer nearestAnswer plain unlessRefused withSet withSamples emptySet added removed hasTag
-    fitQuestions newQuestions lineQuestions roomQuestions wantedQuestions clearQuestions questions done
-    loadLines load foundAnswer listingAnswer wantedAnswer accepted step nextState startOn start longEnough
+    fitQuestions newQuestions lineQuestions roomQuestions wantedQuestions clearQuestions questions
+    loaded loadLines foundAnswer listingAnswer wantedAnswer accepted refusal step nextState startOn start longEnough
     walklistStart tagLines refusedLine printedAfter walklistPrints
 computes = tt

@@ -16,7 +16,7 @@ use Rattle.colour.specs.Query.{queryQuestions, inCodes}
 use Rattle.colour.specs.Question.{Question, asks, firstNo}
 use Rattle.sheet.specs.declared.line.Line.{Line}
 use Rattle.sheet.specs.Column.{present}
-use Rattle.sheet.specs.Sheet.{linesOf}
+use Rattle.sheet.specs.Sheet.{lineCount, linesOf}
 use Rattle.model.specs.Lists.{keep}
 use Rattle.model.specs.SampleSet.{SampleSet, Placed, settingsGood, octants}
 use Rattle.model.specs.Layout.{Layout, current, sampleRows, octantRows}
@@ -144,7 +144,7 @@ clearQuestions s = asks 3 (settingsGood s) ∷ []
 -- nearest 9. Questions 1 and 2 come before these and are put to the tables (`Meets`); after the machine's start they are always yes.
 unfoldable pub questions : Machine → Call → List Question
 questions m (Clear s) = clearQuestions s
-questions m (Change (Load sheet)) = asks 11 (present (linesOf sheet)) ∷ []
+questions m (Change (Load sheet)) = asks 11 (present (lineCount sheet)) ∷ []
 questions m (Change (Add s)) = asks 4 (codesFit (s .colour)) ∷ newQuestions m s
 questions m (Change (Remove t)) = asks 8 (hasTag t (m .set .samples)) ∷ []
 questions m (Ask q listing) = queryQuestions q ++ wantedQuestions (m .set) (inCodes q) listing
@@ -154,25 +154,17 @@ pub record Outcome : Type 0 where
   pub answer : Answer
   pub set : SampleSet
 
--- Accepted by a call that reports nothing.
-unfoldable pub done : SampleSet → Outcome
-done set = record { answer = plain 0 []; set = set }
+-- A load that ends with a number, after so many lines that were taken.
+unfoldable pub loaded : Machine → ℕ → ℕ → Outcome
+loaded m n taken = record { answer = loadAnswer n taken; set = m .set }
 
 -- Load adds a sheet's lines in turn, stopping at the first refused; `taken` lines came before these.
 unfoldable pub loadLines : Machine → ℕ → List (Option Line) → Outcome
-loadLines m taken [] = record { answer = loadAnswer 0 taken; set = m .set }
-loadLines m taken (none ∷ rest) = record { answer = loadAnswer (firstNo (lineQuestions m none)) taken; set = m .set }
+loadLines m taken [] = loaded m 0 taken
+loadLines m taken (none ∷ rest) = loaded m (firstNo (lineQuestions m none)) taken
 loadLines m taken (some line ∷ rest) =
     let n : ℕ = firstNo (lineQuestions m (some line)) in
-    elim (eqb n 0) [
-      | true ↦ loadLines (withSet m (added (m .set) (line .sample))) (suc taken) rest
-      | false ↦ record { answer = loadAnswer n taken; set = m .set }
-    ]
-
--- A sheet whose header is not good has no lines to take.
-unfoldable pub load : Machine → Option (List (Option Line)) → Outcome
-load m none = done (m .set)
-load m (some lines) = loadLines m 0 lines
+    elim (eqb n 0) [ true ↦ loadLines (withSet m (added (m .set) (line .sample))) (suc taken) rest | false ↦ loaded m n taken ]
 
 -- Nearest gives the tag and d², or says none with both 0; it uses no listing.
 unfoldable pub foundAnswer : Colour → Option Placed → List ℕ → Answer
@@ -190,19 +182,19 @@ wantedAnswer set (W.Nearest c r) listing = foundAnswer c (nearest c r set) listi
 
 -- What acceptance does. Queries change nothing.
 unfoldable pub accepted : Machine → Call → Outcome
-accepted m (Clear s) = done (emptySet s)
-accepted m (Change (Load sheet)) = load m (linesOf sheet)
-accepted m (Change (Add s)) = done (added (m .set) s)
-accepted m (Change (Remove t)) = done (removed (m .set) t)
+accepted m (Clear s) = record { answer = plain 0 []; set = emptySet s }
+accepted m (Change (Load sheet)) = loadLines m 0 (linesOf sheet)
+accepted m (Change (Add s)) = record { answer = plain 0 []; set = added (m .set) s }
+accepted m (Change (Remove t)) = record { answer = plain 0 []; set = removed (m .set) t }
 accepted m (Ask q listing) = record { answer = wantedAnswer (m .set) (inCodes q) listing; set = m .set }
 
--- One call: the first no gives the number and changes nothing; without one it is accepted.
+-- The first no gives the number, and changes nothing.
+unfoldable pub refusal : Machine → Call → Outcome
+refusal m c = record { answer = plain (firstNo (questions m c)) (lent c); set = m .set }
+
+-- One call.
 unfoldable pub step : Machine → Call → Outcome
-step m c =
-    elim (eqb (firstNo (questions m c)) 0) [
-      | true ↦ accepted m c
-      | false ↦ record { answer = plain (firstNo (questions m c)) (lent c); set = m .set }
-    ]
+step m c = elim (eqb (firstNo (questions m c)) 0) [ true ↦ accepted m c | false ↦ refusal m c ]
 
 -- The machine after a call.
 unfoldable pub nextState : Machine → Call → Machine

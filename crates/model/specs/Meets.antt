@@ -32,23 +32,15 @@ lists (Q.Ball c r) = true
 lists (Q.Box lo hi) = true
 lists (Q.Nearest c r) = false
 
--- The numbers that a query on unsound tables may give: 2; the first no of the questions that are put to the query itself; and, if these accept it,
--- 0 if it finishes, or 13 if it uses a listing.
+-- The numbers that a query on unsound tables may give: 2; the first no of the questions that are put to the query itself, which is 0 if they accept it;
+-- and then also 13, if it uses a listing.
 unfoldable pub mayGive : Query → ℕ → Bool
-mayGive q n =
-    eqb n 2
-    || elim (eqb (firstNo (queryQuestions q)) 0) [
-      | true ↦ eqb n 0 || (lists q && eqb n 13)
-      | false ↦ eqb n (firstNo (queryQuestions q))
-    ]
+mayGive q n = eqb n 2 || eqb n (firstNo (queryQuestions q)) || (eqb (firstNo (queryQuestions q)) 0 && lists q && eqb n 13)
 
 -- It reports what its kind of query reports, and nothing else.
-unfoldable pub ownReports : Query → List ℕ → Answer → Answer
-ownReports q l a =
-    elim (lists q) [
-      | true ↦ listAnswer (a .number) (a .listed) (record { entered = a .entered; measured = a .measured }) (a .listing)
-      | false ↦ nearestAnswer (a .number) (a .found) (a .tag) (a .distance) l
-    ]
+unfoldable pub ownReports : Bool → List ℕ → Answer → Answer
+ownReports true l a = listAnswer (a .number) (a .listed) (record { entered = a .entered; measured = a .measured }) (a .listing)
+ownReports false l a = nearestAnswer (a .number) (a .found) (a .tag) (a .distance) l
 
 -- Question 2, the one freedom: on unsound tables a query may go on, to finish or to give a later number. Then this holds.
 pub record Free (q : Query) (l : List ℕ) (t : Tables) (a : Answer) (t′ : Tables) : Type 0 where
@@ -61,7 +53,7 @@ pub record Free (q : Query) (l : List ℕ) (t : Tables) (a : Answer) (t′ : Tab
   pub past : drop (a .listed) (a .listing) ≡ drop (a .listed) l
   -- nothing at all where a number is given, and every report 0
   pub refused : (a .number ≡ 0 → ⊥) → a ≡ plain (a .number) l
-  pub reports : a ≡ ownReports q l a
+  pub reports : a ≡ ownReports (lists q) l a
 
 -- A call on tables t that answers a and leaves t′, with what holds on unsound tables.
 pub record TableMeets (unsoundly : Type 0) (c : Call) (t : Tables) (a : Answer) (t′ : Tables) : Type 0 where

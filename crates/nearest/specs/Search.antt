@@ -12,8 +12,8 @@ use Rattle.colour.specs.Colour.{black, distance, wrapped}
 use Rattle.colour.specs.Octant.{depths, children, childLow}
 use Rattle.colour.specs.Region.{closest}
 use Rattle.colour.specs.Nearby.{closestChild}
-use Rattle.model.specs.Layout.{Count, Child, current}
-use Rattle.words.specs.Rows.{settingsIn, sampleIn, octantField, octantLimit}
+use Rattle.model.specs.Layout.{Bucket, Count, Child, current}
+use Rattle.words.specs.Rows.{settingIn, sampleIn, octantField, octantLimit}
 use Rattle.traversal.specs.Own.{ownRows, endsAt}
 use Rattle.nearest.specs.declared.best.Best.{Best}
 use Rattle.nearest.specs.declared.search.Search.{Search}
@@ -64,7 +64,7 @@ turnChild c s low m = bitXor (closestChild c s low) m
 unfoldable pub searchOf : List ℕ → List ℕ → Colour → ℕ → ℕ → Colour → Search → Search
 searchOf ws os c zero row low s = ownSearch ws os c row (searchEntering s)
 searchOf ws os c (suc j) row low s =
-    elim (endsAt (suc j) false (octantField current os row Count) (settingsIn current ws .bucket)) [
+    elim (endsAt (suc j) false (octantField current os row Count) (settingIn current ws Bucket)) [
       | true ↦ ownSearch ws os c row (searchEntering s)
       | false ↦ inTurn (λ m. childSearch os c (searchOf ws os c j) (2 ^ j) row low (turnChild c (2 ^ j) low m)) children (searchEntering s)
     ]

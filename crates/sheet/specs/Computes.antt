@@ -7,7 +7,7 @@ use Rattle.sheet.specs.Line.{numberColumns, lineBytes, writeNumber, writ
 use Rattle.sheet.specs.Steps.{numberIs, within, putAt, nameLengthIn}
 use Rattle.sheet.specs.Answers.{headerAnswer, lineAnswer, writtenAnswer}
 use Rattle.sheet.specs.Sheet.{title, sameBytes, countColumns, headerLength, lineStart, headerFormed, countIf, lineCount, readHeader, linePart, linesFrom, linesBy, linesOf}
-use Rattle.sheet.specs.Sheet.{emptyPart, bytesOf, allGood, namePartFrom, namePartOf, namePart}
+use Rattle.sheet.specs.Sheet.{emptyPart, bytesOf, allGood, namePartFrom, namePart}
 use Rattle.sheet.specs.Entries.{headerBytes, linesBytes, sheetBytes, entryGood, entriesGood, lineSaid, linesSaid, nameFor}
 
 -- The numbers of columns, places and lengths.
@@ -21,7 +21,7 @@ unfolding colourComputes sheetNumbers blank newline between digitByte trimmed di
     nameByte leading nameGood nameFieldGood lineFrom nameLengthIn nameField lineFormed codeColumn lineNumbers lineOf readLine
     numberColumns lineBytes writeNumber writeLine
     sameBytes headerFormed countIf lineCount readHeader linePart linesFrom linesBy linesOf
-    emptyPart bytesOf allGood namePartFrom namePartOf namePart
+    emptyPart bytesOf allGood namePartFrom namePart
     numberIs headerAnswer lineAnswer writtenAnswer
     headerBytes linesBytes sheetBytes entryGood entriesGood lineSaid linesSaid nameFor
 sheetComputes = tt

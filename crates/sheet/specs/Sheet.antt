@@ -69,13 +69,13 @@ unfoldable pub linesFrom : List ℕ → ℕ → ℕ → List (Option Line)
 linesFrom s k zero = []
 linesFrom s k (suc n) = lineOf (linePart s k) ∷ linesFrom s (suc k) n
 
--- The lines of a sheet; none where the header is not good.
-unfoldable pub linesBy : Option ℕ → List ℕ → Option (List (Option Line))
-linesBy none s = none
-linesBy (some n) s = some (linesFrom s 0 n)
+-- The lines that a header counts; one that is not good counts none.
+unfoldable pub linesBy : Option ℕ → List ℕ → List (Option Line)
+linesBy none s = []
+linesBy (some n) s = linesFrom s 0 n
 
 -- A sheet's lines.
-unfoldable pub linesOf : List ℕ → Option (List (Option Line))
+unfoldable pub linesOf : List ℕ → List (Option Line)
 linesOf s = linesBy (lineCount s) s
 
 -- The empty part.
@@ -102,14 +102,9 @@ namePartFrom tag k (some l ∷ rest) =
       | false ↦ namePartFrom tag (suc k) rest
     ]
 
--- The name lookup: the empty part also if the header or any line is not good.
-unfoldable pub namePartOf : ℕ → Option (List (Option Line)) → Part
-namePartOf tag none = emptyPart
-namePartOf tag (some lines) = elim (allGood lines) [ true ↦ namePartFrom tag 0 lines | false ↦ emptyPart ]
-
--- The part of a sheet that holds the name for a tag.
+-- The name lookup: the empty part also if any line is not good, or the header, without which there are no lines.
 unfoldable pub namePart : List ℕ → ℕ → Part
-namePart s tag = namePartOf tag (linesOf s)
+namePart s tag = elim (allGood (linesOf s)) [ true ↦ namePartFrom tag 0 (linesOf s) | false ↦ emptyPart ]
 
 -- What is promised of the text that a lookup hands back: it is those bytes, and they are a part of the sheet itself, in its memory and within it.
 pub record NameIn (sheet : RefT (List ℕ)) (tag : ℕ) (r : RefT (List ℕ)) : Type 0 where

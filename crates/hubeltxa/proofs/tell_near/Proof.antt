@@ -9,13 +9,13 @@ use Rattle.hubeltxa.proofs.tell_near.Tie as tie
 report-of-requires : tie.Need-report-of-requires
 report-of-requires c κs = search needs
 
-found-or-none-requires : tie.Need-found-or-none-requires
-found-or-none-requires c κs = search needs
+yes-or-no-requires : tie.Need-yes-or-no-requires
+yes-or-no-requires c κs = search needs
 
 returns : tie.Need-returns
 unfolding reportAnswer
 returns c =
-    let f = c .found-or-none .ensures in
+    let f = c .yes-or-no .ensures in
     let told = c .before .report-of .ensures in
     record {
       number-is = λ l. ap (λ (a : Answer). a .number) (told l);
@@ -26,4 +26,4 @@ returns c =
     }
 
 pub tell-near-spec : {M : Type 1} → statement M
-tell-near-spec = tie.close (tie.spec report-of-requires found-or-none-requires returns)
+tell-near-spec = tie.close (tie.spec report-of-requires yes-or-no-requires returns)

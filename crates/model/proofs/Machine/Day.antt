@@ -12,7 +12,7 @@ use Rattle.colour.specs.Question.{firstNo}
 use Rattle.model.specs.Layout.{current, sampleHeader, octantHeader}
 use Rattle.model.specs.Tables.{Tables}
 use Rattle.model.specs.Machine.{Machine, Call, Clear, Change, Ask, lent, Answer, tablesOf, withSet, emptySet, plain, clearQuestions, questions}
-use Rattle.model.specs.Machine.{Outcome, done, accepted, step, nextState, startOn, start}
+use Rattle.model.specs.Machine.{Outcome, accepted, refusal, step, nextState, startOn, start}
 use Rattle.model.specs.Sound.{Shows, longEnough}
 use Rattle.model.specs.Meets.{Meets, ClearMeets, Follows, Refused}
 use Rattle.model.specs.Trace.{Event, callOf, Happened, played, machineTrace, WholeDay}
@@ -35,17 +35,17 @@ started s m t shows =
     λ i. startOn s (samples-length current current-complete m t shows i) (octants-length current current-complete m t shows i)
 
 module _ (s : Settings) (m : Machine) where
-  pub clear-accepted : firstNo (clearQuestions s) ≡ 0 → step m (Clear s) ≡ done (emptySet s)
+  pub clear-accepted : firstNo (clearQuestions s) ≡ 0 → step m (Clear s) ≡ record { answer = plain 0 []; set = emptySet s }
   unfolding questions accepted
   clear-accepted z = step-accepted m (Clear s) z
 
   pub clear-refused : (firstNo (clearQuestions s) ≡ 0 → ⊥) → step m (Clear s) ≡ record { answer = plain (firstNo (clearQuestions s)) []; set = m .set }
-  unfolding questions lent
+  unfolding questions refusal lent
   clear-refused n = step-refused m (Clear s) n
 
 clear-follows : (s : Settings) (m : Machine) (t : Tables) (a : Answer) (t′ : Tables) → Shows current m t → ClearMeets s t a t′
     → Follows m (Clear s) a t′
-unfolding lent done nextState withSet
+unfolding lent nextState withSet
 clear-follows s m t a t′ shows h = go (eqb (firstNo (clearQuestions s)) 0) refl
   where
     go : (r : Bool) → eqb (firstNo (clearQuestions s)) 0 ≡ r → Follows m (Clear s) a t′

@@ -1,7 +1,7 @@
 -- The contracts can be met: on sound tables by the machine's own answer, on others by a refusal, and an accepted clear on any. So the whole-day theorem
 -- is not empty: the machine's own day happened (`trace-happened`), whatever words the tables held before it.
 use Prim.Native.Nat.{ℕ}
-use mathlib.Core.Bool.{Bool, true, false, true≢false, and-eq-true-iff, or-true}
+use mathlib.Core.Bool.{Bool, true, false, true≢false, and-eq-true-iff}
 use mathlib.Core.List.{List, [], _∷_}
 use mathlib.Core.Path.{_≡_, refl, sym, ap, _∙_, subst}
 use native.Mathlib.Omega.{arith}
@@ -13,8 +13,8 @@ use Rattle.colour.specs.declared.Query.{Query}
 use Rattle.colour.specs.Question.{firstNo}
 use Rattle.model.specs.Layout.{current, sampleHeader, octantHeader}
 use Rattle.model.specs.Tables.{Tables}
-use Rattle.model.specs.Machine.{Machine, Call, Clear, Change, Ask, lent, tablesOf, withSet, emptySet, plain, listAnswer, nearestAnswer, clearQuestions}
-use Rattle.model.specs.Machine.{Outcome, done, step, nextState, startOn, start}
+use Rattle.model.specs.Machine.{Machine, Call, Clear, Change, Ask, lent, tablesOf, withSet, plain, listAnswer, nearestAnswer, clearQuestions}
+use Rattle.model.specs.Machine.{Outcome, step, nextState, start}
 use Rattle.model.specs.Sound.{Shows, Sound, longEnough}
 use Rattle.model.specs.Meets.{Meets, ClearMeets, TableMeets, Follows, Free, lists, mayGive, ownReports}
 use Rattle.model.specs.Trace.{Happened, played, machineTrace}
@@ -35,7 +35,7 @@ module _ (m : Machine) (t : Tables) (s : Shows current m t) where
       }
 
   clear-meets : (x : Settings) → ClearMeets x t (step m (Clear x) .answer) (tablesOf current (nextState m (Clear x)))
-  unfolding lent done nextState withSet
+  unfolding lent nextState withSet
   clear-meets x =
       record {
         short = λ e. absurd (true≢false (sym (sound-long m t s) ∙ e));
@@ -57,13 +57,13 @@ module _ (m : Machine) (t : Tables) (s : Shows current m t) where
   machine-meets (Ask q l) = table-meets _ (Ask q l)
 
 -- A query that refuses on unsound tables keeps within what question 2 leaves it, if it may give the number.
-pub nothing-reported : (q : Query) (l : List ℕ) (n : ℕ) → plain n l ≡ ownReports q l (plain n l)
+pub nothing-reported : (q : Query) (l : List ℕ) (n : ℕ) → plain n l ≡ ownReports (lists q) l (plain n l)
 unfolding ownReports plain nearestAnswer listAnswer
 nothing-reported q l n = go (lists q) refl
   where
-    go : (r : Bool) → lists q ≡ r → plain n l ≡ ownReports q l (plain n l)
-    go true e = rw (e, ownReports)
-    go false e = rw (e, ownReports)
+    go : (r : Bool) → lists q ≡ r → plain n l ≡ ownReports (lists q) l (plain n l)
+    go true e = rw e
+    go false e = rw e
 
 pub refusing-free : (q : Query) (l : List ℕ) (t : Tables) (n : ℕ) → mayGive q n ≡ true → Free q l t (plain n l) t
 unfolding plain nearestAnswer

@@ -1,18 +1,17 @@
 -- One call is accepted or refused by its questions, and by nothing else.
 use Prim.Native.Nat.{ℕ}
-use mathlib.Core.Bool.{Bool, true, false}
 use mathlib.Core.List.{List}
 use mathlib.Core.Path.{_≡_}
 use borrow.Author.Tests.{eq-eqb, ne-eqb}
 use Rattle.colour.specs.Question.{Question, firstNo}
-use Rattle.model.specs.Machine.{Machine, Call, lent, Answer, plain, unlessRefused, questions, Outcome, accepted, step}
+use Rattle.model.specs.Machine.{Machine, Call, Answer, plain, unlessRefused, questions, accepted, refusal, step}
 
 pub step-accepted : (m : Machine) (c : Call) → firstNo (questions m c) ≡ 0 → step m c ≡ accepted m c
 unfolding step
 step-accepted m c z = rw (step, eq-eqb (firstNo (questions m c)) 0 z)
 
 pub step-refused : (m : Machine) (c : Call) → (firstNo (questions m c) ≡ 0 → ⊥)
-    → step m c ≡ record { answer = plain (firstNo (questions m c)) (lent c); set = m .set }
+    → step m c ≡ refusal m c
 unfolding step
 step-refused m c n = rw (step, ne-eqb (firstNo (questions m c)) 0 n)
 

@@ -17,12 +17,12 @@ use Rattle.colour.specs.Question.{firstNo}
 use Rattle.colour.proofs.Laws.Questions.{asked}
 use Rattle.sheet.specs.declared.line.Line.{Line}
 use Rattle.sheet.specs.Sheet.{linesOf}
-use Rattle.sheet.proofs.Laws.Ranges.{Ranged, AllRanged, SheetRanged, sheet-ranged}
+use Rattle.sheet.proofs.Laws.Ranges.{Ranged, AllRanged, sheet-ranged}
 use Rattle.model.specs.Lists.{keep}
 use Rattle.model.specs.SampleSet.{SampleSet, settingsGood, placedFrom, placed, octants}
 use Rattle.model.specs.Layout.{current, sampleHeader, octantHeader, sampleRows, octantRows}
 use Rattle.model.specs.Machine.{Machine, Call, Clear, Change, Load, Add, Remove, Ask, withSet, withSamples, emptySet, added, removed, hasTag}
-use Rattle.model.specs.Machine.{fitQuestions, newQuestions, lineQuestions, clearQuestions, questions, done, loadLines, load, accepted, step, nextState}
+use Rattle.model.specs.Machine.{fitQuestions, newQuestions, lineQuestions, clearQuestions, questions, loaded, loadLines, accepted, refusal, step, nextState}
 use Rattle.model.specs.Machine.{startOn}
 use Rattle.model.specs.Sound.{Valid, distinct, codesInRange}
 use Rattle.model.proofs.Lists.{keep-length}
@@ -84,7 +84,7 @@ started-valid s n k h g q =
     }
 
 lines-valid : (lines : List (Option Line)) (m : Machine) (k : ℕ) → Valid current m → AllRanged lines → Valid current (withSet m (loadLines m k lines .set))
-unfolding loadLines lineQuestions AllRanged Ranged withSet
+unfolding loaded loadLines lineQuestions AllRanged Ranged withSet
 lines-valid [] m k v f = v
 lines-valid (none ∷ rest) m k v f = v
 lines-valid (some l ∷ rest) m k v f =
@@ -99,16 +99,11 @@ lines-valid (some l ∷ rest) m k v f =
         rw (loadLines, e) (h (added-valid m (l .sample) v (f .0 .codes) (q12 .1)))
     go false e h = rw (loadLines, e) v
 
-load-valid : (m : Machine) (lines : Option (List (Option Line))) → Valid current m → SheetRanged lines → Valid current (withSet m (load m lines .set))
-unfolding load done SheetRanged withSet
-load-valid m none v f = v
-load-valid m (some lines) v f = lines-valid lines m 0 v f
-
 -- An accepted call leaves a machine within its tables: one case for each call, and for no other reason than its questions.
 accepted-valid : (m : Machine) (c : Call) → Valid current m → firstNo (questions m c) ≡ 0 → Valid current (withSet m (accepted m c .set))
-unfolding questions accepted done withSet startOn
+unfolding questions accepted withSet startOn
 accepted-valid m (Clear s) v z = started-valid s (m .sampleLength) (m .octantLength) (v .sample-words) (v .octant-words) z
-accepted-valid m (Change (Load sheet)) v z = load-valid m (linesOf sheet) v (sheet-ranged sheet)
+accepted-valid m (Change (Load sheet)) v z = lines-valid (linesOf sheet) m 0 v (sheet-ranged sheet)
 accepted-valid m (Change (Add s)) v z =
     let q4 = asked 4 (codesFit (s .colour)) (newQuestions m s) (λ e. omega arith) z in
     added-valid m s v (q4 .0) (q4 .1)
@@ -116,7 +111,7 @@ accepted-valid m (Change (Remove t)) v z = removed-valid m t v
 accepted-valid m (Ask q l) v z = v
 
 pub step-valid : (m : Machine) (c : Call) → Valid current m → Valid current (nextState m c)
-unfolding nextState withSet
+unfolding nextState withSet refusal
 step-valid m c v = go (eqb (firstNo (questions m c)) 0) refl
   where
     go : (r : Bool) → eqb (firstNo (questions m c)) 0 ≡ r → Valid current (nextState m c)

@@ -42,7 +42,7 @@ keep-keep p q r h (x ∷ xs) = go (p x) (q x) refl refl (keep-keep p q r h xs)
         let none : r x ≡ false = rw (h x, e) in
         rw (e, keep) (rw (none, keep) i)
 
--- The octants of a set's tree, from the root down, with the samples that the definitions give each.
+-- Every octant from the root down, whether it is in the set's tree or not, with the samples that the definitions give it.
 pub data Reached (set : SampleSet) : ℕ → Colour → List Placed → Type 0 where
   whole : Reached set depths black (placed set)
   below : {j : ℕ} {low : Colour} {xs : List Placed} (k : ℕ) → k < children → Reached set (suc j) low xs

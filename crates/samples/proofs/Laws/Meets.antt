@@ -9,7 +9,7 @@ use Rattle.colour.proofs.Laws.Questions.{refusal-numbered}
 use Rattle.model.specs.Layout.{current}
 use Rattle.model.specs.Tables.{Tables}
 use Rattle.model.specs.SampleSet.{SampleSet}
-use Rattle.model.specs.Machine.{Machine, Changing, Change, lent, Answer, Outcome, plain, tablesOf, withSet, questions, done, accepted, nextState}
+use Rattle.model.specs.Machine.{Machine, Changing, Change, lent, Answer, Outcome, plain, tablesOf, withSet, questions, accepted, refusal, nextState}
 use Rattle.model.specs.Sound.{Sound, longEnough}
 use Rattle.model.specs.Meets.{Refused, TableMeets, Follows}
 use Rattle.model.proofs.Machine.Step.{step-accepted, step-refused}
@@ -62,7 +62,7 @@ changed-refused r q e z = refusal-numbered q (sym (ap changedNumber e) ∙ z)
 -- A call that answers a number alone. By the first no of its questions nothing changes; without one the set is the one that acceptance gives.
 module _ (m : Machine) (c : Changing) (t′ : Tables) where
   pub refused-follows : (k : ℕ) → firstNo (questions m (Change c)) ≡ k → (k ≡ 0 → ⊥) → t′ ≡ tablesOf current m → Follows m (Change c) (plain k []) t′
-  unfolding lent nextState withSet
+  unfolding refusal lent nextState withSet
   refused-follows k asked ne told =
       let e = step-refused m (Change c) (λ z. ne (sym asked ∙ z)) in
       record {
@@ -70,9 +70,9 @@ module _ (m : Machine) (c : Changing) (t′ : Tables) where
         tables = told ∙ ap (λ (o : Outcome). tablesOf current (withSet m (o .set))) (sym e);
       }
 
-  pub accepted-follows : (set : SampleSet) → firstNo (questions m (Change c)) ≡ 0 → accepted m (Change c) ≡ done set
+  pub accepted-follows : (set : SampleSet) → firstNo (questions m (Change c)) ≡ 0 → accepted m (Change c) ≡ record { answer = plain 0 []; set = set }
       → t′ ≡ tablesOf current (withSet m set) → Follows m (Change c) (plain 0 []) t′
-  unfolding done nextState
+  unfolding nextState
   accepted-follows set asked does told =
       let e = step-accepted m (Change c) asked ∙ does in
       record {

@@ -22,10 +22,6 @@ unfoldable pub AllRanged : List (Option Line) → Type 0
 AllRanged [] = Unit {0}
 AllRanged (l ∷ rest) = Ranged l × AllRanged rest
 
-unfoldable pub SheetRanged : Option (List (Option Line)) → Type 0
-SheetRanged none = Unit {0}
-SheetRanged (some lines) = AllRanged lines
-
 -- What holds of no line, and of each line with tag and codes in range, holds of what a line's numbers say.
 pub from-holds : (P : Option Line → Type 0) (t r g b : Option ℕ) (n : ℕ) → P none
     → ((l : Line) → l .«name_length» ≡ n → GoodRange l → P (some l)) → P (lineFrom t r g b n)
@@ -56,11 +52,11 @@ unfolding AllRanged linesFrom
 lines-ranged s k zero = tt
 lines-ranged s k (suc n) = (line-ranged (linePart s k), lines-ranged s (suc k) n)
 
-by-ranged : (n : Option ℕ) (s : List ℕ) → SheetRanged (linesBy n s)
-unfolding SheetRanged linesBy
+by-ranged : (n : Option ℕ) (s : List ℕ) → AllRanged (linesBy n s)
+unfolding AllRanged linesBy
 by-ranged none s = tt
 by-ranged (some n) s = lines-ranged s 0 n
 
-pub sheet-ranged : (s : List ℕ) → SheetRanged (linesOf s)
+pub sheet-ranged : (s : List ℕ) → AllRanged (linesOf s)
 unfolding linesOf
 sheet-ranged s = by-ranged (lineCount s) s

@@ -15,7 +15,7 @@ use Rattle.colour.specs.Question.{asks, firstNo}
 use Rattle.sheet.specs.declared.line.Line.{Line}
 use Rattle.model.specs.SampleSet.{octants}
 use Rattle.model.specs.Layout.{current, sampleRows, octantRows}
-use Rattle.model.specs.Machine.{Machine, Outcome, hasTag, loadAnswer, withSet, withSamples, added, fitQuestions, newQuestions, lineQuestions, loadLines}
+use Rattle.model.specs.Machine.{Machine, Outcome, hasTag, loadAnswer, withSet, withSamples, added, fitQuestions, newQuestions, lineQuestions, loaded, loadLines}
 use Rattle.model.specs.Sound.{distinct}
 use Rattle.model.proofs.Machine.Samples.{snoc-distinct, front-distinct, last-new}
 use Rattle.model.proofs.Machine.Valid.{row-unused}
@@ -92,7 +92,7 @@ module _ (m : Machine) where
     line-stops : (k : ℕ) (rest : List (Option Line)) → Fits xs → (length xs < rows → Fits more → ⊥)
         → loadLines (holding m xs) k (some l ∷ rest)
         ≡ record { answer = loadAnswer (stopNumber xs rows (some l ∷ rest)) k; set = withSamples (m .set) xs }
-    unfolding loadLines withSamples withSet
+    unfolding loaded loadLines withSamples withSet
     line-stops k rest f never =
         let r = refused rest f never in
         rw (r .1, loadLines) (ap (λ (n : ℕ). record { answer = loadAnswer n k; set = withSamples (m .set) xs }) (r .0))
@@ -105,7 +105,7 @@ module _ (m : Machine) where
   stops-at-once : (lines : List (Option Line)) (xs : List Sample) (k room : ℕ) → room ≡ rows - length xs → Fits xs
       → ((0 ≡ length (goodSamples room lines) → ⊥) → Fits (xs ++ take 1 (goodSamples room lines)) → ⊥)
       → loadLines (holding m xs) k lines ≡ ended xs k lines
-  unfolding ended loadLines goodSamples stopNumber firstNo withSamples withSet lineQuestions
+  unfolding ended loaded loadLines goodSamples stopNumber firstNo withSamples withSet lineQuestions
   stops-at-once [] xs k room e f never = refl
   stops-at-once (none ∷ rest) xs k room e f never = refl
   stops-at-once (some l ∷ rest) xs k zero e f never = line-stops xs l k rest f (λ h _. omega arith)

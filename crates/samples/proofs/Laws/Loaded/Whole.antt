@@ -18,7 +18,7 @@ use Rattle.sheet.proofs.Laws.Ranges.{lines-ranged}
 use Rattle.sheet.proofs.Laws.Reading.Header.{formed}
 use Rattle.model.specs.Layout.{current, sampleRows}
 use Rattle.model.specs.Tables.{Tables, pair}
-use Rattle.model.specs.Machine.{Machine, Change, Load, Outcome, loadAnswer, plain, nearestAnswer, withSet, withSamples, questions, load, accepted, step, nextState, tablesOf}
+use Rattle.model.specs.Machine.{Machine, Change, Load, Outcome, loadAnswer, plain, nearestAnswer, withSet, withSamples, questions, accepted, step, nextState, tablesOf}
 use Rattle.model.specs.Sound.{Shows, Sound, distinct}
 use Rattle.model.proofs.Machine.Samples.{front-range, both-range}
 use Rattle.model.proofs.Machine.Step.{step-accepted}
@@ -43,9 +43,9 @@ sheet-whole sheet lines e = omega (arith, formed sheet lines e .whole)
 
 -- Question 11: without one nothing changes.
 pub not-headed : (t : Tables) (sheet : List ℕ) → none ≡ lineCount sheet → FollowsAll (Load sheet) t (loadedAnswer (L.Refused R.Header 0)) t
-unfolding loadedAnswer loadAnswer plain nearestAnswer questions linesOf linesBy present
+unfolding loadedAnswer loadAnswer plain nearestAnswer questions present
 not-headed t sheet e m shows =
-    refused-follows m (Load sheet) t 11 (first-no 11 (present (linesBy (lineCount sheet) sheet)) [] (rw (← e))) (λ z. omega (arith, z)) (shows .words)
+    refused-follows m (Load sheet) t 11 (first-no 11 (present (lineCount sheet)) [] (rw (← e))) (λ z. omega (arith, z)) (shows .words)
 
 -- Lines put after the first n rows.
 module _ (n : ℕ) (ws sheet : List ℕ) (lines put : ℕ) (ws′ : List ℕ) (told : LinesPut n ws sheet lines put ws′) where
@@ -118,12 +118,12 @@ module _ (ws os sheet : List ℕ) (lines : ℕ) (x : Settings) (n put : ℕ) (ws
     machine-takes : lineCount sheet ≡ some lines → (j : ℕ) → j ≤ put → Acceptable x ws′ (length os) (n + j)
         → ((j ≡ put → ⊥) → Acceptable x ws′ (length os) (n + suc j) → ⊥)
         → step m (Change (Load sheet)) ≡ ended m (with-more j) j (linesFrom sheet j (lines - j))
-    unfolding questions accepted load linesOf linesBy present withSamples withSet
+    unfolding questions accepted linesOf linesBy present withSamples withSet
     machine-takes header j h a never =
         let room : sampleRows current (length ws) - n ≡ sampleRows current (m .sampleLength) - length (m .set .samples) =
         ap₂ (λ (l k : ℕ). sampleRows current l - k) (sample-length ws os m shows) (counted ∙ count-shown ws os m shows) in
         let few : j ≤ lines = omega (arith, h, put-most n ws sheet lines put ws′ told) in
-        step-accepted m (Change (Load sheet)) (alone-yes 11 (present (linesBy (lineCount sheet) sheet)) (rw header))
+        step-accepted m (Change (Load sheet)) (alone-yes 11 (present (lineCount sheet)) (rw header))
         ∙ rw header
         (load-stops m j (linesFrom sheet 0 lines) (m .set .samples) 0 (sampleRows current (length ws) - n) room (omega (arith, h, told .many)) (more-fit j h a)
         (λ ne f. never (λ z. ne (z ∙ told .many)) (fit-more (suc j) (omega (arith, h, ne, told .many)) f))

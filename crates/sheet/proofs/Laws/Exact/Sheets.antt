@@ -8,8 +8,8 @@ use native.Mathlib.Omega.{arith}
 use lib.ListN.{length, take, drop, take-append-drop, drop-of-length-le}
 use Rattle.sheet.specs.declared.line.Line.{Line}
 use Rattle.sheet.specs.Line.{nameStart, lineLength, lineOf}
-use Rattle.sheet.specs.Sheet.{title, countColumns, headerLength, lineStart, lineCount, linePart, linesFrom, linesBy, linesOf, allGood}
-use Rattle.sheet.specs.Entries.{Entry, headerBytes, linesBytes, sheetBytes, entryGood, entriesGood, lineSaid, linesSaid}
+use Rattle.sheet.specs.Sheet.{title, countColumns, headerLength, lineStart, lineCount, linePart, linesFrom, allGood}
+use Rattle.sheet.specs.Entries.{sheetRead, readBy, Entry, headerBytes, linesBytes, sheetBytes, entryGood, entriesGood, lineSaid, linesSaid}
 use Rattle.sheet.proofs.Laws.Exact.Lines.{number-exact, column-fits, line-exact, line-name-good, line-name-size}
 use Rattle.sheet.proofs.Laws.Reading.Header.{Formed, formed, line-ends}
 use Rattle.sheet.proofs.Laws.Numbers.{line-start-is}
@@ -96,7 +96,7 @@ lines-exact s k (suc n) whole g =
         }
 
 -- A sheet whose header and lines are all good.
-module _ (s : List ℕ) (lines : List (Option Line)) (e : linesOf s ≡ some lines) (g : allGood lines ≡ true) where
+module _ (s : List ℕ) (lines : List (Option Line)) (e : sheetRead s ≡ some lines) (g : allGood lines ≡ true) where
   -- Its header counts its entries.
   record Counted : Type 0 where
     n : ℕ
@@ -104,7 +104,7 @@ module _ (s : List ℕ) (lines : List (Option Line)) (e : linesOf s ≡ some lin
     entries : Entries s 0 n lines (entriesOf s lines)
 
   counted : Counted
-  unfolding linesOf linesBy
+  unfolding sheetRead readBy
   counted = go (lineCount s) refl
     where
       go : (o : Option ℕ) → lineCount s ≡ o → Counted
@@ -134,6 +134,6 @@ module _ (s : List ℕ) (lines : List (Option Line)) (e : linesOf s ≡ some lin
       (c .entries .good, rw (c .entries .count) few, c .entries .same)
 
 -- So two such sheets that say the same entries are the same bytes.
-pub same-sheet : (s t : List ℕ) (lines : List (Option Line)) → linesOf s ≡ some lines → linesOf t ≡ some lines → allGood lines ≡ true
+pub same-sheet : (s t : List ℕ) (lines : List (Option Line)) → sheetRead s ≡ some lines → sheetRead t ≡ some lines → allGood lines ≡ true
     → entriesOf s lines ≡ entriesOf t lines → s ≡ t
 same-sheet s t lines e f g same = sheet-exact s lines e g ∙ ap sheetBytes same ∙ sym (sheet-exact t lines f g)

@@ -18,7 +18,7 @@ use Rattle.sheet.specs.declared.line.Reading.{Reading}
 use Rattle.sheet.specs.declared.lookup.Part.{Part}
 use Rattle.sheet.specs.Answers.{headerAnswer, lineAnswer}
 use Rattle.sheet.specs.Line.{nameColumns, nameStart, newlineAt, lineLength, lineOf, LineAnswer, lineAsked, readLine}
-use Rattle.sheet.specs.Sheet.{lineStart, lineCount, HeaderAnswer, readHeader, linePart, linesFrom, linesBy, linesOf, emptyPart, bytesOf, allGood, namePartFrom, namePartOf, namePart, NameIn}
+use Rattle.sheet.specs.Sheet.{lineStart, lineCount, HeaderAnswer, readHeader, linePart, linesFrom, linesBy, linesOf, emptyPart, bytesOf, allGood, namePartFrom, namePart, NameIn}
 use Rattle.sheet.proofs.Laws.Exact.Lines.{line-name-good, line-name-size}
 use Rattle.sheet.proofs.Laws.Reading.Header.{line-ends, line-fits}
 use Rattle.sheet.proofs.Laws.Names.{name-good}
@@ -52,7 +52,7 @@ unfolding orElse
 not-found p q h = rw (eq-eqb (p .size) 0 h, orElse)
 
 -- The part, where all lines are good.
-whereGood : Bool → Part → Part
+unfoldable pub whereGood : Bool → Part → Part
 whereGood good p = elim good [ true ↦ p | false ↦ emptyPart ]
 
 -- The part that a lookup hands back, where it found p so far and these lines are left, from line k on.
@@ -91,16 +91,29 @@ pub record SoFar (s : List ℕ) (tag count k start size : ℕ) : Type 0 where
   pub unfound : size ≡ 0 → start ≡ 0
   pub left : namePart s tag ≡ pending (record { start = start; size = size }) tag k (linesFrom s k (count - k))
 
+-- The lookup, by the lines that a header counts.
+abbrev pub lookedUp : ℕ → List (Option Line) → Part
+lookedUp tag lines = whereGood (allGood lines) (namePartFrom tag 0 lines)
+
+pub looked-up : (s : List ℕ) (tag : ℕ) (o : Option ℕ) → lineCount s ≡ o → namePart s tag ≡ lookedUp tag (linesBy o s)
+unfolding linesOf namePart whereGood
+looked-up s tag o e = ap (λ (n : Option ℕ). lookedUp tag (linesBy n s)) e
+
 -- A sheet without a good header, and the first line of one with it.
 pub no-header : (s : List ℕ) (tag : ℕ) → none ≡ lineCount s → emptyPart ≡ namePart s tag
-unfolding namePart namePartOf linesOf linesBy
-no-header s tag e = rw (← e)
+unfolding linesBy namePartFrom allGood whereGood
+no-header s tag e = sym (looked-up s tag none (sym e))
 
 pub begins : (s : List ℕ) (tag count : ℕ) → some count ≡ lineCount s → SoFar s tag count 0 0 0
-unfolding namePart namePartOf linesOf linesBy pending whereGood orElse
+unfolding linesBy pending orElse
 begins s tag count e =
-    let all : count - 0 ≡ count = omega arith in
-    record { reached = omega arith; fits = λ j h. line-fits s count j (sym e) h; unfound = λ z. refl; left = rw (← e, all) }
+    let all : count ≡ count - 0 = omega arith in
+    record {
+      reached = omega arith;
+      fits = λ j h. line-fits s count j (sym e) h;
+      unfound = λ z. refl;
+      left = looked-up s tag (some count) (sym e) ∙ ap (λ (n : ℕ). lookedUp tag (linesFrom s 0 n)) all;
+    }
 
 -- From one state to the next.
 module _ {s : List ℕ} {tag count k start size : ℕ} (h : SoFar s tag count k start size) where
@@ -178,13 +191,13 @@ good-within false p m h = omega arith
 
 -- The part that a lookup hands back lies within the sheet.
 pub name-within : (s : List ℕ) (tag : ℕ) → Within (namePart s tag) (length s)
-unfolding namePart namePartOf linesOf linesBy whereGood emptyPart
+unfolding linesBy whereGood emptyPart namePartFrom allGood
 name-within s tag = go (lineCount s) refl
   where
     go : (o : Option ℕ) → lineCount s ≡ o → Within (namePart s tag) (length s)
-    go none e = rw e (omega arith)
+    go none e = rw (looked-up s tag none e) (omega arith)
     go (some n) e =
-        rw e
+        rw (looked-up s tag (some n) e)
         (good-within (allGood (linesFrom s 0 n)) (namePartFrom tag 0 (linesFrom s 0 n)) (length s)
         (from-within s tag 0 n (length s) (λ j h. line-fits s n j e (omega arith))))
 

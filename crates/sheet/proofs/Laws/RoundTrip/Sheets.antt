@@ -11,11 +11,12 @@ use lib.Seq.{getD-at, drop-append-add}
 use Rattle.colour.specs.Colour.{isTag, codesFit}
 use Rattle.sheet.specs.Column.{newline, columnNumber, columnOf}
 use Rattle.sheet.specs.Line.{nameStart, lineLength, nameGood, lineOf, lineBytes}
-use Rattle.sheet.specs.Sheet.{title, sameBytes, countColumns, headerLength, lineStart, lineCount, linePart, linesFrom, linesBy, linesOf}
-use Rattle.sheet.specs.Sheet.{emptyPart, bytesOf, allGood, namePartFrom, namePartOf, namePart}
-use Rattle.sheet.specs.Entries.{Entry, entriesGood, entryGood, headerBytes, lineSaid, linesBytes, linesSaid, nameFor, sheetBytes}
+use Rattle.sheet.specs.Sheet.{title, sameBytes, countColumns, headerLength, lineStart, lineCount, linePart, linesFrom, linesBy}
+use Rattle.sheet.specs.Sheet.{emptyPart, bytesOf, allGood, namePartFrom, namePart}
+use Rattle.sheet.specs.Entries.{sheetRead, readBy, Entry, entriesGood, entryGood, headerBytes, lineSaid, linesBytes, linesSaid, nameFor, sheetBytes}
 use Rattle.sheet.proofs.Laws.RoundTrip.Columns.{part-at, column-at}
 use Rattle.sheet.proofs.Laws.Reading.Header.{counted}
+use Rattle.sheet.proofs.Laws.Reading.Lookup.{whereGood, lookedUp, looked-up}
 use Rattle.sheet.proofs.Laws.Names.{name-good}
 use Rattle.sheet.proofs.Laws.Numbers.{line-length-is}
 use Rattle.sheet.proofs.Laws.Writing.Lengths.{column-length, line-bytes-length}
@@ -127,8 +128,8 @@ said-good (e ∷ rest) = said-good rest
 
 -- A sheet written from good entries reads back: the count is their number, and each line says its entry.
 pub sheet-reads : (es : List Entry) → entriesGood es ≡ true → length es < 10 ^ countColumns
-    → (lineCount (sheetBytes es) ≡ some (length es)) × (linesOf (sheetBytes es) ≡ some (linesSaid es))
-unfolding sheetBytes linesOf linesBy
+    → (lineCount (sheetBytes es) ≡ some (length es)) × (sheetRead (sheetBytes es) ≡ some (linesSaid es))
+unfolding sheetBytes sheetRead readBy
 sheet-reads es g few =
     let count = count-reads es g few in
     (count, rw count (ap some (lines-read (headerBytes (length es)) 0 es (header-length (length es)) g)))
@@ -136,6 +137,7 @@ sheet-reads es g few =
 -- The lookup in such a sheet hands back the name of the first entry with the tag.
 pub sheet-name : (es : List Entry) (tag : ℕ) → entriesGood es ≡ true → length es < 10 ^ countColumns
     → bytesOf (namePart (sheetBytes es) tag) (sheetBytes es) ≡ nameFor tag es
-unfolding sheetBytes namePart namePartOf
+unfolding sheetBytes linesBy whereGood
 sheet-name es tag g few =
-    rw (sheet-reads es g few .1) (rw (said-good es, namePartOf) (name-found tag (headerBytes (length es)) 0 es (header-length (length es)) g))
+    rw (looked-up (sheetBytes es) tag (some (length es)) (count-reads es g few))
+    (rw (lines-read (headerBytes (length es)) 0 es (header-length (length es)) g, said-good es) (name-found tag (headerBytes (length es)) 0 es (header-length (length es)) g))
