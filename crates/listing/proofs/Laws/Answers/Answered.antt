@@ -24,7 +24,7 @@ use Rattle.listing.proofs.Laws.Sound.Passed.{pass-agrees}
 -- On sound tables the pass answers by what the machine lists and counts, and by question 13 for that.
 pub pass-listing : (t : Tables) (m : Machine) → Shows current m t → (R : Region) (l : List ℕ)
     → passAnswer (passOf (t .samples) (t .octants) R) l
-      ≡ unlessRefused (roomQuestions (listed R (m .set)) l) l (listingAnswer (listed R (m .set)) (counts R (m .set)) l)
+    ≡ unlessRefused (roomQuestions (listed R (m .set)) l) l (listingAnswer (listed R (m .set)) (counts R (m .set)) l)
 unfolding passAnswer countsOf
 pass-listing t m shows R l =
     let p = pass-agrees (t .samples) (t .octants) m shows R in
