@@ -66,8 +66,7 @@ rawWanted t (W.Nearest c r) listing = bestAnswer (r * r) (searchAll (t .samples)
 unfoldable pub rawAnswer : Tables → Query → List ℕ → Answer
 rawAnswer t q listing = unlessRefused (asks 1 (longEnough current t) ∷ queryQuestions q) listing (rawWanted t (inCodes q) listing)
 
--- Bounds on any words at all. They are of the answer, and of the pass or the search that it is named by: no contract speaks of the time that the code
--- takes, or of what it reads.
+-- Bounds on any words at all. They are bounds of the pass or the search that the answer is named by: no contract speaks of the time that the code takes.
 pub record Bounds (listing : List ℕ) (t : Tables) (a : Answer) : Type 0 where
   -- no more octants entered than the octant table counts and has
   pub entered : a .entered ≤ octantLimit current (t .octants)
