@@ -1,7 +1,7 @@
 -- `hbx_box`: what boxed and tell ensure.
 use mathlib.Core.Path.{refl}
 use Rattle.model.specs.Meets.{lists}
-use Rattle.hubeltxa.proofs.Laws.Told.{listed-told}
+use Rattle.hubeltxa.proofs.Laws.Told.{listed-told, told-meets}
 use borrow.Author.Needs.{needs}
 use Rattle.hubeltxa.proofs.hbx_box.Statement.{statement}
 use Rattle.hubeltxa.proofs.hbx_box.Tie as tie
@@ -19,7 +19,7 @@ returns : tie.Need-returns
 unfolding lists
 returns c =
     let a = c .before .before .before .before .before .before .boxed in
-    listed-told _ _ _ refl (a .result) _ _ _ _ _ (c .tell .ensures) (a .ensures .0)
+    told-meets _ _ _ _ _ (listed-told _ _ _ refl (a .result) _ _ _ _ _ (c .tell .ensures) (a .ensures .0)) (a .ensures .0) (a .ensures .1 .0)
 
 pub hbx-box-spec : {M : Type 1} → statement M
 hbx-box-spec = tie.close (tie.spec boxed-requires tell-requires same-length returns)

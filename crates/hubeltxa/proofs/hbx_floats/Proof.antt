@@ -2,6 +2,7 @@
 use borrow.Author.Needs.{needs}
 use mathlib.Core.Path.{sym, ap, _∙_}
 use lib.Ieee.{round, ofBits}
+use Prim.Native.Nat.{ℕ}
 use Rattle.colour.specs.Colour.{black, colourBy}
 use Rattle.colour.specs.Panel.{floatsAnswer, shownColour, shown}
 use Rattle.hubeltxa.proofs.hbx_floats.Statement.{statement}
@@ -13,8 +14,11 @@ floats-of-requires c κs = search needs
 enum-known-p : tie.Need-enum-known-p
 enum-known-p c = search needs
 
-enum-told : tie.Need-enum-told
-enum-told c = search needs
+enum-known-refusal : tie.Need-enum-known-refusal
+enum-known-refusal c = search needs
+
+number-of-requires : tie.Need-number-of-requires
+number-of-requires c κs = search needs
 
 returns : tie.Need-returns
 unfolding floatsAnswer
@@ -24,7 +28,9 @@ returns c =
 
 returns-2 : tie.Need-returns-2
 unfolding floatsAnswer shownColour black colourBy shown round ofBits
-returns-2 c = sym (ap floatsAnswer (c .enum-told .given .1)) ∙ c .before .before .floats-of .ensures .0
+returns-2 c =
+    let d = c .before .before in
+    ap (λ (n : ℕ). record { number = n; floats = shownColour black }) (c .number-of .ensures) ∙ sym (ap floatsAnswer (d .refusal .given .1)) ∙ d .before .before .floats-of .ensures .0
 
 pub hbx-floats-spec : {M : Type 1} → statement M
-hbx-floats-spec = tie.close (tie.spec floats-of-requires enum-known-p enum-told returns returns-2)
+hbx-floats-spec = tie.close (tie.spec floats-of-requires enum-known-p enum-known-refusal number-of-requires returns returns-2)

@@ -116,7 +116,7 @@ module _ (q : Query) (l : List ℕ) (t : Tables) (good : queryGood q ≡ true) w
           room = h;
           past = drop-append-seam tags (drop (length tags) l);
           refused = λ z. absurd (z refl);
-          reports = rw (is-list, ownReports);
+          reports = rw is-list;
         }
 
     may-thirteen : mayGive q 13 ≡ true
@@ -142,7 +142,7 @@ module _ (q : Query) (l : List ℕ) (t : Tables) (good : queryGood q ≡ true) w
           room = omega arith;
           past = refl;
           refused = λ z. absurd (z refl);
-          reports = rw (is-nearest, ownReports);
+          reports = rw is-nearest;
         }
 
     best-free : (limit : ℕ) (b : Best) → Free q l t (bestAnswer limit b l) t
@@ -188,7 +188,7 @@ module _ (q : Query) (l : List ℕ) (t : Tables) where
 
   may-nine : queryGood q ≡ false → mayGive q 9 ≡ true
   unfolding mayGive
-  may-nine g = rw (nine-no q g) (rw (nine-no q g))
+  may-nine g = rw (nine-no q g)
 
   -- On unsound ones it keeps within what question 2 leaves.
   raw-free : longEnough current t ≡ true → Free q l t (rawAnswer t q l) t
@@ -207,15 +207,15 @@ module _ (q : Query) (l : List ℕ) (t : Tables) where
       go false g = raw-refused (sound-long m t s) g ∙ sym (query-refused m q l g)
 
   -- It reports what its kind of query reports, and nothing else.
-  raw-own : rawAnswer t q l ≡ ownReports q l (rawAnswer t q l)
+  raw-own : rawAnswer t q l ≡ ownReports (lists q) l (rawAnswer t q l)
   raw-own = go (longEnough current t) refl
     where
-      go : (e : Bool) → longEnough current t ≡ e → rawAnswer t q l ≡ ownReports q l (rawAnswer t q l)
+      go : (e : Bool) → longEnough current t ≡ e → rawAnswer t q l ≡ ownReports (lists q) l (rawAnswer t q l)
       go false d = rw (raw-short d) (nothing-reported q l 1)
       go true d = raw-free d .reports
 
-  pub own-reports : (a : Answer) → AskMeets q l t a → a ≡ ownReports q l a
-  own-reports a m = m .named ∙ raw-own ∙ ap (ownReports q l) (sym (m .named))
+  pub own-reports : (a : Answer) → AskMeets q l t a → a ≡ ownReports (lists q) l a
+  own-reports a m = m .named ∙ raw-own ∙ ap (ownReports (lists q) l) (sym (m .named))
 
   -- The contract, by the named answer alone; and the bounds.
   pub ask-meets : (a : Answer) → a ≡ rawAnswer t q l → AskMeets q l t a

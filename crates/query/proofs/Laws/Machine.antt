@@ -11,7 +11,7 @@ use Rattle.colour.specs.Query.{queryGood, queryQuestions, inCodes}
 use Rattle.colour.specs.Question.{Question, firstNo}
 use Rattle.colour.proofs.Laws.Questions.{first-yes, first-no}
 use Rattle.model.specs.Machine.{Machine, Ask, lent, Answer, plain, unlessRefused, withSet, wantedQuestions, questions}
-use Rattle.model.specs.Machine.{Outcome, wantedAnswer, accepted, step, nextState}
+use Rattle.model.specs.Machine.{Outcome, wantedAnswer, accepted, refusal, step, nextState}
 use Rattle.model.proofs.Machine.Step.{step-accepted, step-refused, answer-accepted, answer-refused}
 
 -- An answer goes by the number alone.
@@ -28,7 +28,7 @@ module _ (m : Machine) (q : Query) (l : List ℕ) where
 
   -- By its questions, with the set as it was.
   step-query : step m (Ask q l) ≡ record { answer = unlessRefused put l wants; set = m .set }
-  unfolding accepted lent
+  unfolding accepted refusal lent
   step-query = go (eqb (firstNo put) 0) refl
     where
       go : (b : Bool) → eqb (firstNo put) 0 ≡ b → step m (Ask q l) ≡ record { answer = unlessRefused put l wants; set = m .set }
