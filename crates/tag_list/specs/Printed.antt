@@ -7,7 +7,7 @@ use Rattle.model.specs.SampleSet.{order}
 use Rattle.model.specs.Layout.{current}
 use Rattle.model.specs.Tables.{Tables}
 use Rattle.model.specs.Queries.{tagOf}
-use Rattle.model.specs.Machine.{Machine, Load, tablesOf, step}
+use Rattle.model.specs.Machine.{Machine, Change, Load, tablesOf, step, nextState}
 use Rattle.model.specs.Sound.{Shows, Sound}
 use Rattle.model.specs.Walklist.{walklistStart, tagLines}
 
@@ -26,5 +26,5 @@ Fits t = Sound current t × (length (t .samples) ≤ walklistStart .sampleLength
 
 -- A sheet's load into an empty set gave a number and left tables.
 pub record SheetLoaded (sheet : List ℕ) (number : ℕ) (t : Tables) : Type 0 where
-  pub number-is : number ≡ step walklistStart (Load sheet) .answer .number
-  pub tables-are : t ≡ tablesOf current (step walklistStart (Load sheet) .next)
+  pub number-is : number ≡ step walklistStart (Change (Load sheet)) .answer .number
+  pub tables-are : t ≡ tablesOf current (nextState walklistStart (Change (Load sheet)))

@@ -25,7 +25,8 @@ fn put_number_line(text: &mut [u8], at: usize, columns: usize, n: u32)
 // Writes the lines of tags over the first bytes of a text.
 pub fn put_tags(text: &mut [u8], tags: &[u32])
     requires { ⌜ 11 * length (now tags) ≤ length (now text) ⌝ }
-    ensures { λ _. ⌜ now (text .exit) ≡ tagLines (now (tags .entry)) ++ drop (11 * length (now (tags .entry))) (now (text .entry)) ⌝ }
+    ensures { λ _. ⌜ now (text .exit)
+        ≡ tagLines (now (tags .entry)) ++ drop (11 * length (now (tags .entry))) (now (text .entry)) ⌝ }
 {
     let mut i = 0;
     while i < tags.len() {

@@ -4,6 +4,7 @@ use crate::lines::put_refusal;
 use crate::lines::put_tags;
 use colour::Colour;
 use colour::Region;
+use colour::Settings;
 use listing::list::Listed;
 use listing::list::list;
 use samples::answers::report_of;
@@ -13,7 +14,7 @@ use words::number::least;
 ghost use Prim.Native.Nat.{_≤_};
 ghost use mathlib.Core.Path.{_≡_};
 ghost use lib.ListN.{length};
-ghost use Rattle.model.specs.Tables.{pair};
+ghost use Rattle.model.specs.Tables.{pair, tablesLent, tablesLeft};
 ghost use Rattle.model.specs.Walklist.{walklistPrints};
 ghost use Rattle.tag_list.specs.Printed.{Printed, OrderPrinted, Fits, SheetLoaded};
 
@@ -46,7 +47,7 @@ fn grey(code: u32) -> Colour
 // Writes the tags of the set in sound tables, in the order (the paper's walk). A box of all colours lists every sample.
 fn put_order(samples: &[u32], octants: &[u32], text: &mut [u8]) -> usize
     requires { ⌜ (Fits (pair (now samples) (now octants))) × (5632 ≤ length (now text)) ⌝ }
-    ensures { λ r. ⌜ OrderPrinted (pair (now (samples .entry)) (now (octants .entry))) (now (text .entry)) (now (text .exit)) r ⌝ }
+    ensures { λ r. ⌜ OrderPrinted (tablesLent samples octants) (now (text .entry)) (now (text .exit)) r ⌝ }
 {
     let mut tags = [0u32; 512];
     match list(
@@ -60,21 +61,22 @@ fn put_order(samples: &[u32], octants: &[u32], text: &mut [u8]) -> usize
             put_tags(text, &tags[..lines]);
             PRINTED_LINE * lines
         }
-        Listed::NoRoom => 0,
+        Listed::Refused(_) => 0,
     }
 }
 
 // Loads a sheet into an empty set, and gives the number.
 fn load_sheet(samples: &mut [u32], octants: &mut [u32], sheet: &[u8]) -> u32
     requires { ⌜ (length (now samples) ≡ 2562) × (length (now octants) ≡ 16380) ⌝ }
-    ensures { λ r. ⌜ SheetLoaded (now (sheet .entry)) r (pair (now (samples .exit)) (now (octants .exit))) ⌝ }
+    ensures { λ r. ⌜ SheetLoaded (now (sheet .entry)) r (tablesLeft samples octants) ⌝ }
 {
-    clear(samples, octants, BUCKET);
+    clear(samples, octants, Settings { bucket: BUCKET });
     let report = report_of(load(samples, octants, sheet));
     report.number
 }
 
-// Writes what walklist prints over the first bytes of a text, and says how many they are: an exported call. Input past 32,768 bytes is cut off.
+// Writes what walklist prints over the first bytes of a text, and says how many they are: an exported call. Input past 32,768 bytes is
+// cut off.
 pub fn print(input: &[u8], text: &mut [u8; TEXT_LENGTH]) -> usize
     ensures { λ r. ⌜ Printed (walklistPrints (now (input .entry))) (now (text .entry)) (now (text .exit)) r ⌝ }
 {

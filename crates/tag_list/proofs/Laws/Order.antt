@@ -10,11 +10,13 @@ use lib.Pow.{pow-pos}
 use Rattle.colour.specs.declared.Colour.{Colour}
 use Rattle.colour.specs.declared.Region.{Region}
 use Rattle.colour.specs.declared.Region.the-variants.{Box}
+use Rattle.colour.specs.declared.refusal.Refusal.{Refusal}
 use Rattle.colour.specs.Colour.{black}
 use Rattle.colour.specs.Octant.{depths}
 use Rattle.colour.specs.Region.{holds, inside}
 use Rattle.colour.specs.Computes.{colourComputes}
 use Rattle.colour.proofs.Laws.Extremes.{inside-all}
+use Rattle.colour.proofs.Laws.Questions.{refusal-numbered}
 use Rattle.model.specs.SampleSet.{placed, order}
 use Rattle.model.specs.Layout.{sampleHeader, sampleWidth, sampleRows, current}
 use Rattle.model.specs.Tables.{Tables, pair}
@@ -31,7 +33,6 @@ use Rattle.listing.specs.Answers.{listedAnswer, countsOf, passAnswer}
 use Rattle.listing.proofs.Laws.Sound.Passed.{pass-agrees}
 use Rattle.listing.proofs.Laws.Answers.Answered.{pass-fits}
 use Rattle.tag_list.specs.Printed.{Fits}
-use borrow.Author.Tests.{le-leb}
 use Rattle.model.proofs.Tree.Cubes.{Reached, whole, lies}
 use Rattle.traversal.proofs.Laws.Sound.Each.{all-order, all-then, keep-passed}
 use Rattle.traversal.proofs.Laws.Sound.Standing.{all-lie}
@@ -87,7 +88,7 @@ module _ (t : Tables) (fits : Fits t) (R : Region) (all : R ≡ everything) (len
   -- All were listed, question 13 being yes.
   answer : (r : Listed) → listedAnswer r left ≡ passAnswer v lent
       → listedAnswer r left ≡ listAnswer 0 (length (v .tags)) (countsOf v) (v .tags ++ drop (length (v .tags)) lent)
-  answer r e = e ∙ pass-fits v lent (le-leb (length (v .tags)) (length lent) (omega (arith, tags-few)))
+  answer r e = e ∙ pass-fits v lent (omega (arith, tags-few))
 
   pub listed-ordered : (r : Listed) → listedAnswer r left ≡ passAnswer v lent → (n x y : ℕ) → r ≡ L.All n x y → Ordered t left n
   unfolding listedAnswer listAnswer
@@ -103,8 +104,8 @@ module _ (t : Tables) (fits : Fits t) (R : Region) (all : R ≡ everything) (len
         are = λ m shows. ap (take n) words ∙ take-at (v .tags) (drop (length (v .tags)) lent) n (sym size) ∙ tags-are m shows;
       }
 
-  pub listed-none : (r : Listed) → listedAnswer r left ≡ passAnswer v lent → r ≡ L.NoRoom → ⊥
+  pub never-refused : (r : Listed) → listedAnswer r left ≡ passAnswer v lent → (q : Refusal) → r ≡ L.Refused q → ⊥
   unfolding listedAnswer listAnswer plain nearestAnswer
-  listed-none r e is =
+  never-refused r e q is =
       let a = ap (λ (q : Listed). listedAnswer q left) (sym is) ∙ answer r e in
-      omega (arith, ap (λ (z : Answer). z .number) a)
+      refusal-numbered q (ap (λ (z : Answer). z .number) a)

@@ -9,7 +9,7 @@ use lib.ListN.{length, take, drop, length-append}
 use Rattle.model.specs.SampleSet.{order}
 use Rattle.model.specs.Tables.{Tables}
 use Rattle.model.specs.Queries.{tagOf}
-use Rattle.model.specs.Machine.{Outcome, Load, step}
+use Rattle.model.specs.Machine.{Outcome, Change, Load, withSet, step, nextState}
 use Rattle.model.specs.Walklist.{walklistStart, tagLines, refusedLine, printedAfter, walklistPrints}
 use Rattle.words.proofs.Laws.Clipped.{take-clipped}
 use Rattle.tag_list.specs.Printed.{Printed, OrderPrinted, SheetLoaded}
@@ -39,11 +39,11 @@ order-printed t listing before after n o e m shows =
 
 module _ (input : List ℕ) (n : ℕ) (t : Tables) (loaded : SheetLoaded (take 32768 input) n t) where
   abbrev o : Outcome
-  o = step walklistStart (Load (take 32768 input))
+  o = step walklistStart (Change (Load (take 32768 input)))
 
   -- What is printed, where it is known whether the number is 0.
   abbrev printed : Bool → List ℕ
-  printed accepted = elim accepted [ true ↦ tagLines (map tagOf (order (o .next .set))) | false ↦ refusedLine (o .answer .number) ]
+  printed accepted = elim accepted [ true ↦ tagLines (map tagOf (order (o .set))) | false ↦ refusedLine (o .answer .number) ]
 
   pub refusal-printed : (n ≡ 0 → ⊥) → (before after : List ℕ) → after ≡ refusedLine n ++ drop 11 before → Printed (walklistPrints input) before after 11
   unfolding walklistPrints printedAfter
@@ -52,8 +52,8 @@ module _ (input : List ℕ) (n : ℕ) (t : Tables) (loaded : SheetLoaded (take 3
       record { count = omega (arith, ap length is, refusal-length n); text = e ∙ ap (λ (l : List ℕ). l ++ drop 11 before) (sym is) }
 
   pub tags-printed : n ≡ 0 → (before after : List ℕ) (k : ℕ) → OrderPrinted t before after k → Printed (walklistPrints input) before after k
-  unfolding walklistPrints printedAfter OrderPrinted
+  unfolding walklistPrints printedAfter OrderPrinted nextState withSet
   tags-printed accepted before after k h =
-      let is : walklistPrints input ≡ tagLines (map tagOf (order (o .next .set))) = ap printed (eq-eqb (o .answer .number) 0 (sym (loaded .number-is) ∙ accepted)) in
-      let p = h (o .next) (loaded-shows (take 32768 input) n t loaded) in
+      let is : walklistPrints input ≡ tagLines (map tagOf (order (o .set))) = ap printed (eq-eqb (o .answer .number) 0 (sym (loaded .number-is) ∙ accepted)) in
+      let p = h (nextState walklistStart (Change (Load (take 32768 input)))) (loaded-shows (take 32768 input) n t loaded) in
       record { count = p .count ∙ ap length (sym is); text = p .text ∙ ap (λ (l : List ℕ). l ++ drop k before) (sym is) }

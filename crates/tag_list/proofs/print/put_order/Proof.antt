@@ -8,7 +8,7 @@ use Rattle.model.specs.Sound.{longEnough}
 use Rattle.model.proofs.Machine.Day.{sound-long}
 use Rattle.octree.proofs.Laws.Tables.Check.{both-long}
 use Rattle.tag_list.specs.Printed.{Fits}
-use Rattle.tag_list.proofs.Laws.Order.{Ordered, listed-ordered, listed-none}
+use Rattle.tag_list.proofs.Laws.Order.{Ordered, listed-ordered, never-refused}
 use Rattle.tag_list.proofs.Laws.Printing.{order-printed}
 use borrow.Author.Needs.{needs}
 use Rattle.tag_list.proofs.print.put_order.Statement.{statement}
@@ -81,7 +81,7 @@ unfolding Fits
 returns-2 c =
     let l = c .before .before .before in
     let a = l .before .before .before .before .before .before .before in
-    absurd (listed-none (pair (a .args .samples .now) (a .args .octants .now)) (a .pre .0) _ (ap₂ Box (l .before .before .before .grey .ensures) (l .before .before .grey2 .ensures)) _ _ refl (l .list .result) (l .list .ensures) (c .enum-told .given .1))
+    absurd (never-refused (pair (a .args .samples .now) (a .args .octants .now)) (a .pre .0) _ (ap₂ Box (l .before .before .before .grey .ensures) (l .before .before .grey2 .ensures)) _ _ refl (l .list .result) (l .list .ensures) _ (c .enum-told .given .1))
 
 pub put-order-spec : {M : Type 1} → statement M
 put-order-spec =
