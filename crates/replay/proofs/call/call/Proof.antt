@@ -36,8 +36,8 @@ same-length-2 c = search needs
 
 returns : tie.Need-returns
 returns c =
-    rw (c .before^9 .call .given .1)
-    (clear-meets _ _ _ _ _ _ (c .of-changed .ensures) _ (c .before^5 .clear .ensures))
+    rw (c .before .before .before .before .before .before .before .before .before .call .given .1)
+    (clear-meets _ _ _ _ _ _ (c .of-changed .ensures) _ (c .before .before .before .before .before .clear .ensures))
 
 same-length-3 : tie.Need-same-length-3
 same-length-3 c = search needs
@@ -47,8 +47,8 @@ same-length-4 c = search needs
 
 returns-2 : tie.Need-returns-2
 returns-2 c =
-    rw (c .before^8 .call2 .given .1)
-    (change-meets _ _ _ _ _ _ (c .before^4 .change .ensures))
+    rw (c .before .before .before .before .before .before .before .before .call2 .given .1)
+    (change-meets _ _ _ _ _ _ (c .before .before .before .before .change .ensures))
 
 same-length-5 : tie.Need-same-length-5
 same-length-5 c = search needs
@@ -61,8 +61,8 @@ same-length-7 c = search needs
 
 returns-3 : tie.Need-returns-3
 returns-3 c =
-    let a = c .before^3 .ask
-    rw (c .before^8 .call3 .given .1)
+    let a = c .before .before .before .ask in
+    rw (c .before .before .before .before .before .before .before .before .call3 .given .1)
     (ask-meets _ _ _ _ _ _ (c .of-reply .ensures _) _ (a .ensures .0) (a .ensures .1 .0))
 
 pub call-spec : {M : Type 1} → statement M

@@ -2,6 +2,7 @@
 use borrow.Author.Needs.{needs}
 use Rattle.replay.proofs.call.change.Statement.{statement}
 use Rattle.replay.proofs.call.change.Tie as tie
+use Rattle.replay.specs.Calls.{changeMeant}
 use Rattle.replay.proofs.Laws.Calls.{same-meets}
 
 enum-told : tie.Need-enum-told
@@ -38,9 +39,10 @@ same-length-2 : tie.Need-same-length-2
 same-length-2 c = search needs
 
 returns : tie.Need-returns
+unfolding changeMeant
 returns c =
-    rw (c .before^8 .enum-told .given .1)
-    (same-meets _ _ _ _ (c .of-loaded .ensures) _ (c .before^5 .load .ensures))
+    rw (c .before .before .before .before .before .before .before .before .enum-told .given .1)
+    (same-meets _ _ _ _ (c .of-loaded .ensures) _ (c .before .before .before .before .before .load .ensures))
 
 same-length-3 : tie.Need-same-length-3
 same-length-3 c = search needs
@@ -49,9 +51,10 @@ same-length-4 : tie.Need-same-length-4
 same-length-4 c = search needs
 
 returns-2 : tie.Need-returns-2
+unfolding changeMeant
 returns-2 c =
-    rw (c .before^9 .change .given .1)
-    (same-meets _ _ _ _ (c .of-changed .ensures) _ (c .before^5 .add .ensures))
+    rw (c .before .before .before .before .before .before .before .before .before .change .given .1)
+    (same-meets _ _ _ _ (c .of-changed .ensures) _ (c .before .before .before .before .before .add .ensures))
 
 same-length-5 : tie.Need-same-length-5
 same-length-5 c = search needs
@@ -60,9 +63,10 @@ same-length-6 : tie.Need-same-length-6
 same-length-6 c = search needs
 
 returns-3 : tie.Need-returns-3
+unfolding changeMeant
 returns-3 c =
-    rw (c .before^9 .change2 .given .1)
-    (same-meets _ _ _ _ (c .of-changed2 .ensures) _ (c .before^5 .remove .ensures))
+    rw (c .before .before .before .before .before .before .before .before .before .change2 .given .1)
+    (same-meets _ _ _ _ (c .of-changed2 .ensures) _ (c .before .before .before .before .before .remove .ensures))
 
 pub change-spec : {M : Type 1} → statement M
 change-spec =
