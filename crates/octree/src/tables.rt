@@ -195,11 +195,5 @@ pub fn check(samples: &[u32], octants: &[u32]) -> bool
     }
     let mut entries = [0u64; MOST_SAMPLES];
     let mut scratch = [0u64; MOST_SAMPLES];
-    hold(
-        samples,
-        octants,
-        settings,
-        &mut entries[..n],
-        &mut scratch,
-    )
+    hold(samples, octants, settings, &mut entries[..n], &mut scratch)
 }

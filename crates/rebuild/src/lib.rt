@@ -37,10 +37,5 @@ pub extern "C" fn hbx_rebuild(
 ) -> u32
     ensures { λ r. ⌜ RebuildMeets (record { bucket = bucket }) n (tablesLent samples octants) r (tablesLeft samples octants) ⌝ }
 {
-    number_of(rebuild_tables(
-        samples,
-        octants,
-        Settings { bucket },
-        n,
-    ))
+    number_of(rebuild_tables(samples, octants, Settings { bucket }, n))
 }

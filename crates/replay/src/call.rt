@@ -17,12 +17,7 @@ ghost use Rattle.model.specs.Meets.{Meets};
 ghost use Rattle.replay.specs.Calls.{changeMeant, answerOf, CallMeets};
 
 // Makes a call that changes a set.
-fn change(
-    samples: &mut [u32],
-    octants: &mut [u32],
-    change: Changing,
-    sheet: &[u8],
-) -> Given
+fn change(samples: &mut [u32], octants: &mut [u32], change: Changing, sheet: &[u8]) -> Given
     ensures { λ r. ⌜ Meets (Change (changeMeant change (now (sheet .entry)))) (tablesLent samples octants)
         (answerOf r []) (tablesLeft samples octants) ⌝ }
 {

@@ -64,13 +64,7 @@ pub fn rebuild(samples: &mut [u32], octants: &mut [u32], settings: Settings, n: 
 {
     let mut entries = [0u64; MOST_SAMPLES];
     let mut scratch = [0u64; MOST_SAMPLES];
-    rebuild_rows(
-        samples,
-        octants,
-        settings,
-        &mut entries[..n],
-        &mut scratch,
-    )
+    rebuild_rows(samples, octants, settings, &mut entries[..n], &mut scratch)
 }
 
 // Whether the samples in the first rows, as many as there are places for entries, are a set whose tree fits that many octant words.
@@ -104,11 +98,5 @@ pub fn acceptable(samples: &[u32], octants: usize, settings: Settings, n: usize)
 {
     let mut entries = [0u64; MOST_SAMPLES];
     let mut scratch = [0u64; MOST_SAMPLES];
-    rows_accepted(
-        samples,
-        octants,
-        settings,
-        &mut entries[..n],
-        &mut scratch,
-    )
+    rows_accepted(samples, octants, settings, &mut entries[..n], &mut scratch)
 }

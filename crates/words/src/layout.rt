@@ -124,7 +124,9 @@ pub fn settings(samples: &[u32]) -> Settings
     requires { ⌜ sampleHeader current ≤ length (now samples) ⌝ }
     ensures { λ r. ⌜ r ≡ settingsIn current (now (samples .entry)) ⌝ }
 {
-    Settings { bucket: samples[BUCKET] }
+    Settings {
+        bucket: samples[BUCKET],
+    }
 }
 
 // The lesser of the count that a table says and the rows that it has.

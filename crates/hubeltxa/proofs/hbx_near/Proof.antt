@@ -16,8 +16,7 @@ returns : tie.Need-returns
 unfolding lists
 returns c =
     let a = c .before .before .before .before .nearest in
-    let same = near-told _ _ refl (a .result) _ _ _ _ (c .tell-near .ensures) (a .ensures .0) in
-    (
+    let same = near-told _ _ refl (a .result) _ _ _ _ (c .tell-near .ensures) (a .ensures .0) in (
       λ l. told-meets _ l _ _ _ (same l) (a .ensures .0 l) (a .ensures .1 .0 l) .0,
       (λ l. told-meets _ l _ _ _ (same l) (a .ensures .0 l) (a .ensures .1 .0 l) .1, c .tell-near .ensures .bit),
     )

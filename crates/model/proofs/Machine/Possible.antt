@@ -135,16 +135,15 @@ pub trace-happened : (s : Settings) (t : Tables) (calls : List Call) → longEno
     → Happened t (machineTrace s t calls)
 unfolding Happened machineTrace Meets longEnough start
 trace-happened s t calls long ok =
-    let words = and-eq-true-iff (leb (sampleHeader current) (length (t .samples))) (leb (octantHeader current) (length (t .octants))) .0 long in
-    (
+    let words = and-eq-true-iff (leb (sampleHeader current) (length (t .samples))) (leb (octantHeader current) (length (t .octants))) .0 long in (
       record {
         short = λ e. absurd (true≢false (sym long ∙ e));
         refused = λ _ n. absurd (n ok);
         accepted = λ _ _. (refl, refl);
       },
       played-happened calls (start s t) (tablesOf current (start s t))
-      (record {
-        valid = started-valid s (length (t .samples)) (length (t .octants)) (leb-true _ _ (words .0)) (leb-true _ _ (words .1)) ok;
-        words = refl;
-      }),
+          (record {
+            valid = started-valid s (length (t .samples)) (length (t .octants)) (leb-true _ _ (words .0)) (leb-true _ _ (words .1)) ok;
+            words = refl;
+          }),
     )

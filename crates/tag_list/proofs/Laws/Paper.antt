@@ -10,11 +10,11 @@ use lib.Seq.{length-take-le}
 use Rattle.colour.specs.Question.{firstNo}
 use Rattle.colour.proofs.Laws.Questions.{first-no}
 use Rattle.sheet.specs.Column.{present}
-use Rattle.sheet.specs.Sheet.{lineCount, linesBy, linesOf}
+use Rattle.sheet.specs.Sheet.{lineCount}
 use Rattle.sheet.proofs.Laws.Numbers.{line-start-is}
 use Rattle.sheet.proofs.Laws.Reading.Header.{formed}
 use Rattle.model.specs.Layout.{current, sampleRows, octantRows}
-use Rattle.model.specs.Machine.{Call, Change, Load, lent, nearestAnswer, plain, questions}
+use Rattle.model.specs.Machine.{Call, Change, Load, lent, nearestAnswer, plain, questions, refusal}
 use Rattle.model.specs.Walklist.{walklistStart, refusedLine, printedAfter, walklistPrints}
 use Rattle.model.specs.Computes.{computes}
 use Rattle.model.proofs.Machine.Step.{step-refused}
@@ -37,16 +37,16 @@ module _ (input : List ℕ) (long : 32768 ≤ length input) where
   abbrev c : Call
   c = Change (Load (take 32768 input))
 
-  no-lines : present (linesOf (take 32768 input)) ≡ false
-  unfolding linesOf linesBy present
-  no-lines = ap (λ (o : Option ℕ). present (linesBy o (take 32768 input))) (no-sheet (take 32768 input) (length-take-le 32768 input long))
+  no-lines : present (lineCount (take 32768 input)) ≡ false
+  unfolding present
+  no-lines = ap (λ (o : Option ℕ). present o) (no-sheet (take 32768 input) (length-take-le 32768 input long))
 
   gives-11 : firstNo (questions walklistStart c) ≡ 11
   unfolding questions
-  gives-11 = first-no 11 (present (linesOf (take 32768 input))) [] no-lines
+  gives-11 = first-no 11 (present (lineCount (take 32768 input))) [] no-lines
 
   pub cut-refused : walklistPrints input ≡ refusedLine 11
-  unfolding walklistPrints printedAfter plain nearestAnswer lent
+  unfolding walklistPrints printedAfter refusal plain nearestAnswer lent
   cut-refused =
       ap printedAfter (step-refused walklistStart c (λ z. omega (arith, gives-11, z)))
       ∙ ap (λ (n : ℕ). printedAfter (record { answer = plain n []; set = walklistStart .set })) gives-11
