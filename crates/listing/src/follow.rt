@@ -1,5 +1,4 @@
 // The samples of an octant, by their next words. Nothing is trusted: a row is tested before it is read, and a code brought into range.
-use colour::Colour;
 use colour::Region;
 use colour::overlap::holds;
 use colour::wrapped;

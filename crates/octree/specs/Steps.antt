@@ -1,7 +1,7 @@
 -- What the functions under the calls ask and promise. No call's own promise cites these.
 use Prim.Native.Nat.{ℕ, _+_, _*_, _%_, _≤_, _<_, _^_}
 use mathlib.Core.Bool.{Bool, true, false}
-use mathlib.Core.List.{List, [], _∷_, _++_, map}
+use mathlib.Core.List.{List, [], _∷_, _++_}
 use mathlib.Core.Option.{Option, none, some}
 use mathlib.Core.Path.{_≡_}
 use lib.Dec.{eqb, leb}

@@ -167,7 +167,8 @@ fn hold(
     scratch: &mut [u64],
 ) -> bool
     requires { ⌜ Headed settings (now samples) (now octants) (length (now entries)) (length (now scratch)) ⌝ }
-    ensures { λ r. ⌜ (r ≡ true) ↔ (Holds settings (length (now (entries .entry))) (now (samples .entry)) (now (octants .entry))) ⌝ }
+    ensures { λ r. ⌜ (r ≡ true)
+        ↔ (Holds settings (length (now (entries .entry))) (now (samples .entry)) (now (octants .entry))) ⌝ }
 {
     if !all_apart(samples, entries, scratch) {
         return false;

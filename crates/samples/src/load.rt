@@ -31,7 +31,8 @@ ghost use Rattle.samples.specs.Steps.{FollowsAll, Acceptable, Longest, S
 // The most of the first rows, from `low` to `high`, that are a set which fits. As samples are added tags stay known and octants do not
 // get fewer, so halving finds the end; usually all rows fit, and that is asked first.
 fn longest(samples: &[u32], octants: usize, settings: Settings, low: usize, high: usize) -> usize
-    requires { ⌜ (low ≤ high) × (high ≤ sampleRows current (length (now samples))) × (Acceptable settings (now samples) octants low) ⌝ }
+    requires { ⌜ (low ≤ high) × (high ≤ sampleRows current (length (now samples)))
+        × (Acceptable settings (now samples) octants low) ⌝ }
     ensures { λ r. ⌜ Longest settings (now (samples .entry)) octants low high r ⌝ }
 {
     if acceptable(samples, octants, settings, high) {
@@ -78,7 +79,8 @@ fn stopped(samples: &[u32], n: usize, sheet: &[u8], lines: usize, taken: usize) 
 // longest run of them that is a set which fits.
 fn load_lines(samples: &mut [u32], octants: &mut [u32], sheet: &[u8], lines: usize) -> Loaded
     requires { ⌜ (Sound current (pair (now samples) (now octants))) × (lineCount (now sheet) ≡ some lines) ⌝ }
-    ensures { λ r. ⌜ FollowsAll (Load (now (sheet .entry))) (tablesLent samples octants) (loadedAnswer r) (tablesLeft samples octants) ⌝ }
+    ensures { λ r. ⌜ FollowsAll (Load (now (sheet .entry))) (tablesLent samples octants)
+        (loadedAnswer r) (tablesLeft samples octants) ⌝ }
 {
     let settings = settings_of(samples);
     let n = count_of(samples) as usize;
@@ -92,7 +94,8 @@ fn load_lines(samples: &mut [u32], octants: &mut [u32], sheet: &[u8], lines: usi
 
 // Loads a sheet.
 pub fn load(samples: &mut [u32], octants: &mut [u32], sheet: &[u8]) -> Loaded
-    ensures { λ r. ⌜ Meets (Change (Load (now (sheet .entry)))) (tablesLent samples octants) (loadedAnswer r) (tablesLeft samples octants) ⌝ }
+    ensures { λ r. ⌜ Meets (Change (Load (now (sheet .entry)))) (tablesLent samples octants)
+        (loadedAnswer r) (tablesLeft samples octants) ⌝ }
 {
     if !long_enough(samples.len(), octants.len()) {
         return Loaded::Refused(Refusal::TooShort, 0);

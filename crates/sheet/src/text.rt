@@ -69,7 +69,8 @@ pub fn put_blanks(place: &mut [u8])
 // A text at the left of its place, blanks after.
 pub fn put_left(place: &mut [u8], text: &[u8])
     requires { ⌜ length (now text) ≤ length (now place) ⌝ }
-    ensures { λ _. ⌜ now (place .exit) ≡ now (text .entry) ++ replicate (length (now (place .entry)) - length (now (text .entry))) blank ⌝ }
+    ensures { λ _. ⌜ now (place .exit) ≡ now (text .entry)
+        ++ replicate (length (now (place .entry)) - length (now (text .entry))) blank ⌝ }
 {
     let mut i = 0;
     while i < text.len() {

@@ -31,7 +31,8 @@ pub fn most(samples: &[u32], octants: &[u32], row: u32, visited: u32) -> u32
 
 // Whether an octant is gone through sample by sample: it is taken whole, or it is not split.
 pub fn ends(samples: &[u32], octants: &[u32], whole: bool, depth: u32, row: u32) -> bool
-    requires { ⌜ (sampleHeader current ≤ length (now samples)) × ((row < octantRows current (length (now octants))) × (depth ≤ 16)) ⌝ }
+    requires { ⌜ (sampleHeader current ≤ length (now samples))
+        × ((row < octantRows current (length (now octants))) × (depth ≤ 16)) ⌝ }
     ensures { λ r. ⌜ r ≡ endsAt (16 - depth) whole (octantField current (now (octants .entry)) row Count)
         (settingsIn current (now (samples .entry)) .bucket) ⌝ }
 {

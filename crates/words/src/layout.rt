@@ -225,7 +225,8 @@ pub fn put_next(samples: &mut [u32], i: usize, next: u32)
 // Sets the words before the first sample row: the count and the settings.
 pub fn put_header(samples: &mut [u32], count: u32, settings: Settings)
     requires { ⌜ sampleHeader current ≤ length (now samples) ⌝ }
-    ensures { λ _. ⌜ now (samples .exit) ≡ headerWords current count settings ++ drop (sampleHeader current) (now (samples .entry)) ⌝ }
+    ensures { λ _. ⌜ now (samples .exit) ≡ headerWords current count settings
+        ++ drop (sampleHeader current) (now (samples .entry)) ⌝ }
 {
     samples[0] = count;
     samples[BUCKET] = settings.bucket;
@@ -276,7 +277,8 @@ pub struct Octant {
 // Writes an octant's row at the front of the rows lent.
 pub fn put_octant(rows: &mut [u32], octant: Octant, children: &[u32; 8])
     requires { ⌜ octantWidth current ≤ length (now rows) ⌝ }
-    ensures { λ _. ⌜ now (rows .exit) ≡ octantRowBy current (octant .first) (octant .last) (octant .count) (now (children .entry)) ++ drop (octantWidth current) (now (rows .entry)) ⌝ }
+    ensures { λ _. ⌜ now (rows .exit) ≡ octantRowBy current (octant .first) (octant .last) (octant .count) (now (children .entry))
+        ++ drop (octantWidth current) (now (rows .entry)) ⌝ }
 {
     rows[0] = octant.first;
     rows[LAST] = octant.last;
@@ -291,7 +293,8 @@ pub fn put_octant(rows: &mut [u32], octant: Octant, children: &[u32; 8])
 // Whether the row at the front of the rows lent is that octant's.
 pub fn octant_is(rows: &[u32], octant: Octant, children: &[u32; 8]) -> bool
     requires { ⌜ octantWidth current ≤ length (now rows) ⌝ }
-    ensures { λ r. ⌜ (r ≡ true) ↔ (take (octantWidth current) (now (rows .entry)) ≡ octantRowBy current (octant .first) (octant .last) (octant .count) (now (children .entry))) ⌝ }
+    ensures { λ r. ⌜ (r ≡ true) ↔ (take (octantWidth current) (now (rows .entry))
+        ≡ octantRowBy current (octant .first) (octant .last) (octant .count) (now (children .entry))) ⌝ }
 {
     if rows[0] != octant.first {
         return false;

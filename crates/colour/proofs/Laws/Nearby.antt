@@ -1,13 +1,11 @@
 -- The closest d² of an octant's children, by what their halves add up to.
-use Prim.Native.Nat.{ℕ, _+_, _≤_, _<_}
-use mathlib.Core.Bool.{Bool, true, false}
-use mathlib.Core.Path.{_≡_, refl, sym, ap, _∙_}
-use native.Mathlib.Omega.{arith}
+use Prim.Native.Nat.{ℕ}
+use mathlib.Core.Path.{_≡_, refl, sym, _∙_}
 use Rattle.colour.specs.declared.Colour.{Colour}
-use Rattle.colour.specs.Colour.{Channel, Red, Green, Blue, codeIn, distance}
+use Rattle.colour.specs.Colour.{Red, Green, Blue, codeIn, distance}
 use Rattle.colour.specs.Octant.{childLow}
 use Rattle.colour.specs.Region.{closest}
-use Rattle.colour.specs.Steps.{closestSquare, halvesOf, ofChannel}
+use Rattle.colour.specs.Steps.{closestSquare, ofChannel}
 use Rattle.colour.specs.Nearby.{gapsOf, closestBy}
 use Rattle.colour.proofs.Laws.Halves.{closest-shares, child-sum}
 

@@ -13,7 +13,7 @@ use Rattle.query.specs.declared.answers.Reply.{Reply}
 use Rattle.query.specs.Answers.{replyAnswer, AskMeets, Bounds}
 use Rattle.query.proofs.Laws.Answered.{own-reports}
 use Rattle.query.proofs.Laws.Asked.{reply-listing}
-use Rattle.hubeltxa.specs.Left.{listLeft, isYes, nearLeft, Told, ToldNear}
+use Rattle.hubeltxa.specs.Left.{listLeft, nearLeft, Told, ToldNear}
 use Rattle.samples.specs.declared.answers.Changed.{Changed}
 use Rattle.samples.specs.declared.answers.Loaded.{Loaded}
 use Rattle.samples.specs.Answers.{changedNumber, changedAnswer, loadedNumber, loadedTaken, loadedAnswer}

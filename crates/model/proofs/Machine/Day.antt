@@ -1,5 +1,4 @@
 -- The whole-day theorem (demand 3): `whole-day`. It rests on each call's contract alone, on `step-valid`, and on the tables' lengths.
-use Prim.Native.Nat.{ℕ}
 use mathlib.Core.Bool.{Bool, true, false, and-eq-true-iff}
 use mathlib.Core.List.{List, [], _∷_, map}
 use mathlib.Core.Path.{_≡_, refl, sym, ap, _∙_}

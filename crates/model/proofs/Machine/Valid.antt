@@ -19,10 +19,10 @@ use Rattle.sheet.specs.declared.line.Line.{Line}
 use Rattle.sheet.specs.Sheet.{linesOf}
 use Rattle.sheet.proofs.Laws.Ranges.{Ranged, AllRanged, sheet-ranged}
 use Rattle.model.specs.Lists.{keep}
-use Rattle.model.specs.SampleSet.{SampleSet, settingsGood, placedFrom, placed, octants}
+use Rattle.model.specs.SampleSet.{settingsGood, placedFrom, placed, octants}
 use Rattle.model.specs.Layout.{current, sampleHeader, octantHeader, sampleRows, octantRows}
 use Rattle.model.specs.Machine.{Machine, Call, Clear, Change, Load, Add, Remove, Ask, withSet, withSamples, emptySet, added, removed, hasTag}
-use Rattle.model.specs.Machine.{fitQuestions, newQuestions, lineQuestions, clearQuestions, questions, loaded, loadLines, accepted, refusal, step, nextState}
+use Rattle.model.specs.Machine.{fitQuestions, newQuestions, lineQuestions, clearQuestions, questions, loaded, loadLines, accepted, refusal, nextState}
 use Rattle.model.specs.Machine.{startOn}
 use Rattle.model.specs.Sound.{Valid, distinct, codesInRange}
 use Rattle.model.proofs.Lists.{keep-length}

@@ -2,7 +2,6 @@
 use Rattle.colour.specs.Colour.{Channel, codeIn}
 use Rattle.colour.specs.Nearby.{gapsOf}
 use Rattle.colour.proofs.Laws.Cubes.{child-room}
-use borrow.Author.Needs.{needs}
 use Rattle.colour.proofs.nearby.gaps_of.Statement.{statement}
 use Rattle.colour.proofs.nearby.gaps_of.Tie as tie
 

@@ -1,9 +1,7 @@
 -- By the bit.
-use mathlib.Core.Path.{_≡_, refl, sym, ap}
+use mathlib.Core.Path.{_≡_, sym, ap}
 use native.Mathlib.Omega.{arith}
-use Prim.Native.Nat.{ℕ}
 use Rattle.colour.specs.Steps.{halfAt}
-use borrow.Author.Needs.{needs}
 use Rattle.colour.proofs.nearby.half_at.Statement.{statement}
 use Rattle.colour.proofs.nearby.half_at.Tie as tie
 

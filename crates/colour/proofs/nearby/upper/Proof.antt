@@ -1,9 +1,7 @@
 -- By the test.
-use mathlib.Core.Path.{_≡_, refl, sym, ap}
 use native.Mathlib.Omega.{arith}
 use borrow.Author.Tests.{le-leb, lt-leb}
 use Rattle.colour.proofs.Laws.Halves.{bit-yes, bit-no}
-use borrow.Author.Needs.{needs}
 use Rattle.colour.proofs.nearby.upper.Statement.{statement}
 use Rattle.colour.proofs.nearby.upper.Tie as tie
 

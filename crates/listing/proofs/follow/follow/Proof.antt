@@ -7,13 +7,6 @@ use lib.ListN.{set}
 use Rattle.listing.proofs.Laws.Steps.Following.{Following, following-begins, all-seen, rows-end, not-listed, is-listed}
 use Rattle.listing.proofs.follow.follow.Statement.{statement}
 use Rattle.listing.proofs.follow.follow.Tie as tie
-use Rattle.listing.proofs.follow.follow.Reads as reads
-use Rattle.listing.proofs.follow.follow.Lts as lts
-use Rattle.listing.proofs.follow.put.Reads as put-reads
-use Rattle.listing.proofs.follow.takes.Reads as takes-reads
-use Rattle.words.proofs.layout.next.Reads as next-reads
-use Rattle.words.proofs.layout.sample_rows.Reads as sample-rows-reads
-use Rattle.words.proofs.layout.tag.Reads as tag-reads
 
 abbrev Inv-loop : tie.InvT-loop
 Inv-loop samples region whole first count listing₀ start rows row₀ seen₀ end₀ listing row seen end =

@@ -5,13 +5,6 @@ use Rattle.listing.proofs.Laws.Steps.Passing.{pass-sane, fresh-counting
 use borrow.Author.Needs.{needs}
 use Rattle.listing.proofs.visit.pass.Statement.{statement}
 use Rattle.listing.proofs.visit.pass.Tie as tie
-use Rattle.listing.proofs.visit.pass.Reads as reads
-use Rattle.listing.proofs.visit.pass.Lts as lts
-use Rattle.colour.proofs.octant.root.Reads as root-reads
-use Rattle.colour.proofs.overlap.overlaps.Reads as overlaps-reads
-use Rattle.listing.proofs.tally.may_enter.Reads as may-enter-reads
-use Rattle.listing.proofs.visit.visit.Reads as visit-reads
-use Rattle.words.proofs.layout.octant_limit.Reads as octant-limit-reads
 
 octant-limit-requires : tie.Need-octant-limit-requires
 octant-limit-requires c κs = search needs

@@ -1,6 +1,6 @@
 -- Judging a list by its entries is asking questions 6 and 7 of the set (document 01, "Questions").
 use Prim.Native.Nat.{ℕ, _≤_}
-use mathlib.Core.List.{List, [], _∷_}
+use mathlib.Core.List.{[], _∷_}
 use mathlib.Core.Path.{_≡_, ap₂, _∙_}
 use lib.Dec.{leb}
 use lib.ListN.{length, length-map}

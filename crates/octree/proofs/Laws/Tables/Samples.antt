@@ -1,5 +1,5 @@
 -- The sample table, as it is compared and written.
-use Prim.Native.Nat.{ℕ, zero, suc, _+_, _-_, _*_, _≤_}
+use Prim.Native.Nat.{ℕ, suc, _+_, _-_, _*_, _≤_}
 use mathlib.Core.Bool.{Bool, true, false, not}
 use mathlib.Core.List.{List, _∷_, _++_, map}
 use mathlib.Core.Logic.{_↔_, Iff·trans}
@@ -19,7 +19,7 @@ use Rattle.model.proofs.Tables.Unique.{back-same}
 use Rattle.model.proofs.Tree.Order.{placed-length}
 use Rattle.words.specs.Rows.{settingId, sampleId, place, sampleStart, sampleAt, sampleField, settingIn, settingsIn, countIn, samplesFrom}
 use Rattle.words.proofs.Laws.Answers.{refuted}
-use Rattle.words.proofs.Laws.Layout.Places.{sample-start, samples-end}
+use Rattle.words.proofs.Laws.Layout.Places.{samples-end}
 use Rattle.words.proofs.Laws.Layout.Samples.{samples-length, rowsBy, rows-front, Follows, nexts-rows, rows-nexts, same-sample, same-samples}
 use Rattle.words.proofs.Laws.Words.{Zero}
 use Rattle.order.specs.Entries.{view}

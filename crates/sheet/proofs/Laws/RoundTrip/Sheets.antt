@@ -16,7 +16,7 @@ use Rattle.sheet.specs.Sheet.{emptyPart, bytesOf, allGood, namePartFrom,
 use Rattle.sheet.specs.Entries.{sheetRead, readBy, Entry, entriesGood, entryGood, headerBytes, lineSaid, linesBytes, linesSaid, nameFor, sheetBytes}
 use Rattle.sheet.proofs.Laws.RoundTrip.Columns.{part-at, column-at}
 use Rattle.sheet.proofs.Laws.Reading.Header.{counted}
-use Rattle.sheet.proofs.Laws.Reading.Lookup.{whereGood, lookedUp, looked-up}
+use Rattle.sheet.proofs.Laws.Reading.Lookup.{whereGood, looked-up}
 use Rattle.sheet.proofs.Laws.Names.{name-good}
 use Rattle.sheet.proofs.Laws.Numbers.{line-length-is}
 use Rattle.sheet.proofs.Laws.Writing.Lengths.{column-length, line-bytes-length}

@@ -11,7 +11,7 @@ use lib.ListN.{length, getD}
 use Rattle.colour.specs.Colour.{Red, Green, Blue, colourBy}
 use Rattle.colour.specs.Octant.{bitWeight}
 use Rattle.colour.proofs.Laws.Table.{valuesFrom, rule}
-use Rattle.model.specs.Layout.{SampleField, Tag, Code, Next, OctantField, First, Last, Count, Child, current, Bucket, sampleHeader, sampleWidth, octantHeader, octantWidth, sampleRows, octantRows}
+use Rattle.model.specs.Layout.{SampleField, Tag, Code, Next, OctantField, First, Last, Count, Child, current, sampleHeader, sampleWidth, octantHeader, octantWidth, sampleRows, octantRows}
 use Rattle.model.proofs.Tables.Numbers.{current-numbers}
 use Rattle.model.proofs.Tables.Size.{rows-within}
 use Rattle.words.specs.Rows.{settingId, sampleId, octantId, place, sampleStart, sampleAt, sampleField, settingIn, settingsIn, octantStart, octantAt, octantField}
