@@ -12,10 +12,9 @@ use mathlib.Core.List.{List, [], _∷_, _++_}
 use lib.ListN.{replicate}
 use Rattle.colour.specs.Key.{key}
 use Rattle.model.specs.Computes.{computes}
-use Rattle.model.specs.Machine.{Load, Remove}
 use Rattle.model.specs.Walklist.{walklistPrints}
 use Rattle.vectors.specs.Harness.{words, bytes, panel, colour, sample, harness}
-use Rattle.vectors.specs.Harness.{clear, add, ball, nearest, box, Expected, expect, AsBefore, Words, sequencePart}
+use Rattle.vectors.specs.Harness.{clear, add, load, remove, ball, nearest, box, Expected, expect, AsBefore, Words, sequencePart}
 use Rattle.vectors.specs.Harness.{Value, value, valuesPart, number, columnValue, countValue, lineValue, writeValue}
 use Rattle.vectors.specs.Harness.{nameValue, codesValue, floatsValue, panelNumbers, rowsValue, startNumber, bitOf}
 ";
@@ -60,9 +59,9 @@ fn call(call: &Call) -> String {
     let bits = |p: &[f32; 3]| arguments(&p.map(f32::to_bits));
     match call {
         Call::Clear(bucket) => format!("(clear {bucket})"),
-        Call::Load(sheet) => format!("(Load {})", bytes(sheet)),
+        Call::Load(sheet) => format!("(load {})", bytes(sheet)),
         Call::Add(tag, codes) => format!("(add {tag} {})", arguments(codes)),
-        Call::Remove(tag) => format!("(Remove {tag})"),
+        Call::Remove(tag) => format!("(remove {tag})"),
         Call::Pick(query, listing) => match query {
             Gesture::Ball { centre, radius } | Gesture::Near { centre, radius } => {
                 format!("({} {} {} {})", kind(call), bits(centre), radius.to_bits(), words(listing))
