@@ -8,12 +8,13 @@
 # make definitions  the definitions, compared with the straight scan by computing both
 # make must-fail    every must-fail edit, also those that are not in the gate; CRATE=order for those of one crate
 # make rules        changed rules of the reference machine, each of which must break the proof of its call
+# make believed     how many lines of definitions a reader must believe; BY=-v each definition
 # make map          draw crates.txt, as docs/architecture.svg
 # make bench        how fast it is, beside C++, nanoflann, FLANN and a scan; written to docs/BENCHMARK.md
 # make fmt          format Rattle and Rust
 # make clean        remove what is built
 
-.PHONY: all demo lib parts test test-long fuzz definitions must-fail rules map bench fmt clean
+.PHONY: all demo lib parts test test-long fuzz definitions must-fail rules believed map bench fmt clean
 
 all:
 	@tools/build
@@ -48,6 +49,9 @@ must-fail:
 
 rules:
 	@tools/rules/run
+
+believed:
+	@tools/believed $(BY)
 
 map:
 	@tools/map > docs/architecture.svg
