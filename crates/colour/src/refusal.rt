@@ -2,7 +2,7 @@
 ghost use mathlib.Core.Path.{_≡_};
 ghost use Rattle.colour.specs.Refusal.{refusalNumber};
 
-// One case for each question that a call can be answered with no, in the sequence of their numbers. C and Rust name them alike.
+// One case for each question that can be answered with no, in the sequence of their numbers. C and Rust name them alike.
 pub enum Refusal {
     TooShort,
     Unsound,

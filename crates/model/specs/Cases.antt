@@ -34,7 +34,7 @@ panelGrey v = record { red = v; green = v; blue = v }
 unfoldable pub bits : ℕ → Float
 bits w = ofBits binary32 w
 
--- Machines on room for 16 samples and on a given number of octant words, after some calls.
+-- Machines on room for 16 samples and on a given number of octant words.
 unfoldable pub fresh : ℕ → ℕ → Machine
 fresh b words = startOn (record { bucket = b }) 82 words
 
@@ -98,7 +98,7 @@ nearestGives m tag =
     let a : Answer = step m (Ask (Nearest (panelGrey (bits 0)) (bits 0x37800000)) []) .answer in
     eqb (a .number) 0 && a .found && eqb (a .tag) tag && eqb (a .distance) 0
 
--- As a channel, and as a radius: the number, and the code.
+-- As a channel: the number, and the code.
 unfoldable pub channelGives : ℕ → ℕ → ℕ → Bool
 channelGives w number code =
     let a : CodesAnswer = floatsToCodes (panelGrey (bits w)) in
