@@ -1,4 +1,4 @@
--- Records of document 01 from the flat numbers, floats and words of a C call, as it leaves them.
+-- Records of document 01 from the flat numbers, floats and words of a C call: its arguments, and what it leaves.
 use Prim.Native.Nat.{ℕ, _≤_}
 use mathlib.Core.Bool.{Bool}
 use mathlib.Core.List.{List}

@@ -6,7 +6,7 @@ use mathlib.Core.Path.{_≡_}
 use lib.ListN.{length, getD}
 use lib.Seq.{sets}
 use Rattle.colour.specs.declared.Region.{Region}
-use Rattle.model.specs.Layout.{current, sampleHeader}
+use Rattle.model.specs.Layout.{current, sampleHeader, octantHeader}
 use Rattle.words.specs.Rows.{octantLimit, sampleBudget}
 use Rattle.listing.specs.declared.follow.Run.{Run}
 use Rattle.traversal.specs.Own.{rowsFrom}
@@ -33,10 +33,10 @@ pub record TallyWithin (budget limit : ℕ) (t : Tally) : Type 0 where
 -- What is known wherever a pass stands: both headers are there, and the tally's words say a tally within the tables' bounds.
 pub record Counting (ws os words : List ℕ) : Type 0 where
   pub samples : sampleHeader current ≤ length ws
-  pub octants : 1 ≤ length os
+  pub octants : octantHeader current ≤ length os
   pub small : octantLimit current os < 4294967296
   pub five : length words ≡ 5
-  pub sane : TallyWithin (sampleBudget current ws) (octantLimit current os) (tallyIn words)
+  pub limits : TallyWithin (sampleBudget current ws) (octantLimit current os) (tallyIn words)
   pub listed : listedIn words ≤ tallyIn words .visited
 
 -- A run of samples was gone through: its tags stand in the listing from a start on, as far as it reaches.

@@ -11,7 +11,7 @@ ghost use Prim.Native.Nat.{_≤_};
 ghost use mathlib.Core.Path.{_≡_};
 ghost use lib.ListN.{length};
 ghost use Rattle.colour.specs.Region.{Fair};
-ghost use Rattle.model.specs.Layout.{current, sampleHeader};
+ghost use Rattle.model.specs.Layout.{current, sampleHeader, octantHeader};
 ghost use Rattle.listing.specs.Pass.{passOf};
 ghost use Rattle.listing.specs.Answers.{listedAnswer, passAnswer};
 
@@ -23,7 +23,8 @@ pub enum Listed {
 
 // How many a pass lists. It writes on a word of its own, and so only counts.
 fn how_many(samples: &[u32], octants: &[u32], region: Region) -> usize
-    requires { ⌜ (Fair region) × ((sampleHeader current ≤ length (now samples)) × (1 ≤ length (now octants))) ⌝ }
+    requires { ⌜ (Fair region)
+        × ((sampleHeader current ≤ length (now samples)) × (octantHeader current ≤ length (now octants))) ⌝ }
     ensures { λ r. ⌜ r ≡ length (passOf (now (samples .entry)) (now (octants .entry)) region .tags) ⌝ }
 {
     let mut tally = none();
@@ -34,7 +35,8 @@ fn how_many(samples: &[u32], octants: &[u32], region: Region) -> usize
 
 // A pass that writes.
 fn write(samples: &[u32], octants: &[u32], region: Region, listing: &mut [u32]) -> Listed
-    requires { ⌜ (Fair region) × ((sampleHeader current ≤ length (now samples)) × (1 ≤ length (now octants))) ⌝ }
+    requires { ⌜ (Fair region)
+        × ((sampleHeader current ≤ length (now samples)) × (octantHeader current ≤ length (now octants))) ⌝ }
     requires { ⌜ length (passOf (now samples) (now octants) region .tags) ≤ length (now listing) ⌝ }
     ensures { λ r. ⌜ listedAnswer r (now (listing .exit))
         ≡ passAnswer (passOf (now (samples .entry)) (now (octants .entry)) region) (now (listing .entry)) ⌝ }
@@ -47,7 +49,8 @@ fn write(samples: &[u32], octants: &[u32], region: Region, listing: &mut [u32]) 
 // Question 13, and the listing. A listing as long as the samples that a pass may visit holds all, so that one pass does; else it is counted
 // first, and nothing is written where it is too short.
 pub fn list(samples: &[u32], octants: &[u32], region: Region, listing: &mut [u32]) -> Listed
-    requires { ⌜ (Fair region) × ((sampleHeader current ≤ length (now samples)) × (1 ≤ length (now octants))) ⌝ }
+    requires { ⌜ (Fair region)
+        × ((sampleHeader current ≤ length (now samples)) × (octantHeader current ≤ length (now octants))) ⌝ }
     ensures { λ r. ⌜ listedAnswer r (now (listing .exit))
         ≡ passAnswer (passOf (now (samples .entry)) (now (octants .entry)) region) (now (listing .entry)) ⌝ }
 {

@@ -26,7 +26,7 @@ ghost use mathlib.Core.Path.{_≡_};
 ghost use lib.ListN.{length};
 ghost use Rattle.colour.specs.Octant.{Within};
 ghost use Rattle.colour.specs.Region.{Fair};
-ghost use Rattle.model.specs.Layout.{current, sampleHeader};
+ghost use Rattle.model.specs.Layout.{current, sampleHeader, octantHeader};
 ghost use Rattle.words.specs.Rows.{octantLimit, sampleBudget};
 ghost use Rattle.listing.specs.Pass.{noTally, ownSamples, visitOf, passOf};
 ghost use Rattle.listing.specs.Steps.{tallyWords, tallyIn, TallyWithin, Counting, Visited};
@@ -116,7 +116,7 @@ pub fn pass(
     tally: &mut [u32; 5],
 )
     requires { ⌜ Fair region ⌝ }
-    requires { ⌜ (sampleHeader current ≤ length (now samples)) × (1 ≤ length (now octants)) ⌝ }
+    requires { ⌜ (sampleHeader current ≤ length (now samples)) × (octantHeader current ≤ length (now octants)) ⌝ }
     requires { ⌜ now tally ≡ tallyWords 0 noTally ⌝ }
     ensures visited { λ _. ⌜ Visited
         (passOf (now (samples .entry)) (now (octants .entry)) region)

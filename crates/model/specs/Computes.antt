@@ -3,7 +3,7 @@ use lib.Ieee.{ofBits, round}
 use Rattle.sheet.specs.Computes.{sheetComputes}
 use Rattle.model.specs.Lists.{keep, joined, total, padded}
 use Rattle.model.specs.SampleSet.{settingsGood, placedFrom, placed, part, splits, orderOf, octantsOf, order, octants}
-use Rattle.model.specs.Layout.{sampleHeader, octantHeader, sampleWidth, octantWidth, sampleRows, octantRows, current}
+use Rattle.model.specs.Layout.{sampleHeader, sampleWidth, octantWidth, sampleRows, octantRows, current}
 use Rattle.model.specs.Tables.{firstRow, lastRow, nextRow, settingWord, sampleWord, sampleRowsOf, sampleWords, childRow, rowOrNone, childWord}
 use Rattle.model.specs.Tables.{octantWord, octantRow, octantRowsOf, octantWords, tablesFor}
 use Rattle.model.specs.Queries.{listed, noCounts, totalCounts, measureAll, enter, visit, counts, orElse, nearestIn, nearest}
@@ -15,7 +15,7 @@ use Rattle.model.specs.Walklist.{walklistStart, tagLines, refusedLine, p
 
 unfoldable pub computes : Unit {0}
 unfolding sheetComputes ofBits round keep joined total padded settingsGood placedFrom placed part splits orderOf octantsOf order octants
-    sampleHeader octantHeader sampleWidth octantWidth sampleRows octantRows current
+    sampleHeader sampleWidth octantWidth sampleRows octantRows current
     firstRow lastRow nextRow settingWord sampleWord sampleRowsOf sampleWords childRow rowOrNone childWord
     octantWord octantRow octantRowsOf octantWords tablesFor
     listed noCounts totalCounts measureAll enter visit counts orElse nearestIn nearest

@@ -32,7 +32,7 @@ unfoldable pub sampleHeader : Layout → ℕ
 sampleHeader L = suc (length (L .settings))
 
 -- Before the first octant row: the octant count.
-unfoldable pub octantHeader : Layout → ℕ
+abbrev pub octantHeader : Layout → ℕ
 octantHeader L = 1
 
 -- The words of a sample row.

@@ -175,7 +175,7 @@ foundAnswer c (some x) left = nearestAnswer 0 true (tagOf x) (distance c (x .sam
 unfoldable pub listingAnswer : List ℕ → Counts → List ℕ → Answer
 listingAnswer tags c listing = listAnswer 0 (length tags) c (tags ++ drop (length tags) listing)
 
--- What a query answers that wants this.
+-- The answer of a query that wants this.
 unfoldable pub wantedAnswer : SampleSet → Wanted → List ℕ → Answer
 wantedAnswer set (W.Listed R) listing = listingAnswer (listed R set) (counts R set) listing
 wantedAnswer set (W.Nearest c r) listing = foundAnswer c (nearest c r set) listing

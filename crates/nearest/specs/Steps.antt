@@ -4,7 +4,7 @@ use mathlib.Core.List.{List}
 use mathlib.Core.Path.{_≡_}
 use lib.ListN.{length}
 use Rattle.colour.specs.declared.Colour.{Colour}
-use Rattle.model.specs.Layout.{current, sampleHeader}
+use Rattle.model.specs.Layout.{current, sampleHeader, octantHeader}
 use Rattle.words.specs.Rows.{octantLimit, sampleBudget}
 use Rattle.traversal.specs.Own.{rowsFrom}
 use Rattle.nearest.specs.declared.best.Best.{Best}
@@ -20,9 +20,9 @@ pub record SearchWithin (budget limit : ℕ) (s : Search) : Type 0 where
 -- What is known wherever a search stands: both headers are there, and it is within the tables' bounds.
 pub record Ready (ws os : List ℕ) (s : Search) : Type 0 where
   pub samples : sampleHeader current ≤ length ws
-  pub octants : 1 ≤ length os
+  pub octants : octantHeader current ≤ length os
   pub small : octantLimit current os < 4294967296
-  pub sane : SearchWithin (sampleBudget current ws) (octantLimit current os) s
+  pub limits : SearchWithin (sampleBudget current ws) (octantLimit current os) s
 
 -- A run of samples was measured.
 pub record Measured (ws : List ℕ) (c : Colour) (octant first count : ℕ) (best : Best) (r : Run) : Type 0 where

@@ -24,7 +24,7 @@ ghost use lib.ListN.{length};
 ghost use Rattle.colour.specs.Colour.{InRange};
 ghost use Rattle.colour.specs.Octant.{Within};
 ghost use Rattle.colour.specs.Nearby.{closestBy, SmallGaps};
-ghost use Rattle.model.specs.Layout.{current, sampleHeader};
+ghost use Rattle.model.specs.Layout.{current, sampleHeader, octantHeader};
 ghost use Rattle.words.specs.Rows.{octantLimit};
 ghost use Rattle.nearest.specs.Best.{closer};
 ghost use Rattle.nearest.specs.Search.{searchEntering, searchOf, noSearch, searchAll};
@@ -114,7 +114,7 @@ fn start(radius: u32) -> Search
 // Nearest over codes: the root is entered where it is there.
 pub fn nearest(samples: &[u32], octants: &[u32], centre: Colour, radius: u32) -> Best
     requires { ⌜ InRange centre ⌝ }
-    requires { ⌜ (sampleHeader current ≤ length (now samples)) × (1 ≤ length (now octants)) ⌝ }
+    requires { ⌜ (sampleHeader current ≤ length (now samples)) × (octantHeader current ≤ length (now octants)) ⌝ }
     ensures { λ r. ⌜ r ≡ searchAll (now (samples .entry)) (now (octants .entry)) centre radius .best ⌝ }
 {
     let none = start(radius);

@@ -13,7 +13,7 @@ use Rattle.colour.specs.Question.{Question, asks, firstNo}
 use Rattle.colour.specs.Refusal.{refusalNumber}
 use Rattle.model.specs.Lists.{keep, padded}
 use Rattle.model.specs.SampleSet.{Placed, placedFrom, orderOf, octantsOf, octants}
-use Rattle.model.specs.Layout.{Next, current, sampleHeader, octantWidth, sampleRows, octantRows}
+use Rattle.model.specs.Layout.{Next, current, sampleHeader, octantHeader, octantWidth, sampleRows, octantRows}
 use Rattle.model.specs.Tables.{nextRow, headerWords, sampleRowsOf, octantRowsOf, pair, tablesFor}
 use Rattle.model.specs.Sound.{distinct, codesInRange}
 use Rattle.words.specs.Rows.{sampleField, settingsIn, countIn, firstSamples, setOf}
@@ -69,7 +69,7 @@ pub record RowsOnce (n : ℕ) (es : List ℕ) : Type 0 where
   pub most : (row : ℕ) → timesRow row (view es) ≤ 1
   pub found : (row : ℕ) → row < n → 1 ≤ timesRow row (view es)
 
--- The entries of the samples in a table's first rows, in any sequence.
+-- Entries whose rows are the first ones of a table, each once, in any sequence.
 pub record RowsGiven (ws es : List ℕ) : Type 0 where
   pub few : length es ≤ sampleRows current (length ws)
   pub once : RowsOnce (length es) es
@@ -112,7 +112,7 @@ octantTableBy len b es = padded len (octantsOf b depths (view es) ∷ rowsOf b d
 -- What writing the tables of the samples in the first rows asks: they fit, and the entries are theirs in their order.
 pub record Writable (s : Settings) (ws : List ℕ) (octantLength : ℕ) (ordered : List ℕ) : Type 0 where
   pub sample-words : sampleHeader current ≤ length ws
-  pub octant-words : 1 ≤ octantLength
+  pub octant-words : octantHeader current ≤ octantLength
   pub few : length ordered ≤ sampleRows current (length ws)
   pub order : view ordered ≡ orderOf (s .bucket) depths (view (entriesOf (firstSamples current ws (length ordered))))
   pub room : octants (setOf current ws s (length ordered)) ≤ octantRows current octantLength
@@ -120,7 +120,7 @@ pub record Writable (s : Settings) (ws : List ℕ) (octantLength : ℕ) (ordered
 -- What is known where a table's header is right: the count is n, the settings are s, and n rows are there.
 pub record Headed (s : Settings) (ws os : List ℕ) (n scratch : ℕ) : Type 0 where
   pub sample-words : sampleHeader current ≤ length ws
-  pub octant-words : 1 ≤ length os
+  pub octant-words : octantHeader current ≤ length os
   pub few : n ≤ sampleRows current (length ws)
   pub space : n ≤ scratch
   pub counted : countIn ws ≡ n

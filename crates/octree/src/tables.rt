@@ -30,7 +30,7 @@ ghost use mathlib.Core.Path.{_≡_};
 ghost use lib.ListN.{length};
 ghost use Rattle.colour.specs.Octant.{depths};
 ghost use Rattle.model.specs.SampleSet.{octantsOf};
-ghost use Rattle.model.specs.Layout.{current, sampleHeader, octantRows};
+ghost use Rattle.model.specs.Layout.{current, sampleHeader, octantHeader, octantRows};
 ghost use Rattle.model.specs.Tables.{tablesLent, tablesLeft, tablesFor};
 ghost use Rattle.model.specs.Meets.{CheckMeets};
 ghost use Rattle.words.specs.Rows.{countIn, settingsIn, firstSamples, setOf};
@@ -81,7 +81,8 @@ fn write_samples(samples: &mut [u32], settings: Settings, ordered: &[u64])
 
 // Writes the octant table of ordered entries.
 fn write_octants(octants: &mut [u32], bucket: u32, ordered: &[u64])
-    requires { ⌜ (1 ≤ length (now octants)) × (length (now ordered) ≤ 4096) × (Ordered bucket depths (now ordered))
+    requires { ⌜ (octantHeader current ≤ length (now octants)) × (length (now ordered) ≤ 4096)
+        × (Ordered bucket depths (now ordered))
         × (octantsOf bucket depths (view (now ordered)) ≤ octantRows current (length (now octants))) ⌝ }
     ensures { λ _. ⌜ now (octants .exit) ≡ octantTableBy (length (now (octants .entry))) bucket (now (ordered .entry)) ⌝ }
 {
@@ -120,7 +121,8 @@ fn samples_are(samples: &[u32], ordered: &[u64]) -> bool
 
 // Whether the octant table is that of ordered entries, which come to so many octants.
 fn octants_are(octants: &[u32], bucket: u32, count: u32, ordered: &[u64]) -> bool
-    requires { ⌜ (1 ≤ length (now octants)) × (length (now ordered) ≤ 4096) × (Ordered bucket depths (now ordered))
+    requires { ⌜ (octantHeader current ≤ length (now octants)) × (length (now ordered) ≤ 4096)
+        × (Ordered bucket depths (now ordered))
         × (count ≡ octantsOf bucket depths (view (now ordered))) × (count ≤ octantRows current (length (now octants))) ⌝ }
     ensures { λ r. ⌜ (r ≡ true)
         ↔ (now (octants .entry) ≡ octantTableBy (length (now (octants .entry))) bucket (now (ordered .entry))) ⌝ }

@@ -57,7 +57,7 @@ reportAnswer r left =
       listing = left;
     }
 
--- What a query answers on any words that wants this: by the pass, with question 13, or by the search.
+-- The answer, on any words, of a query that wants this: by the pass, with question 13, or by the search.
 unfoldable pub rawWanted : Tables → Wanted → List ℕ → Answer
 rawWanted t (W.Listed R) listing = passAnswer (passOf (t .samples) (t .octants) R) listing
 rawWanted t (W.Nearest c r) listing = bestAnswer (r * r) (searchAll (t .samples) (t .octants) c r .best) listing

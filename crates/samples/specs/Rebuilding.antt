@@ -10,7 +10,7 @@ use Rattle.colour.specs.declared.Settings.{Settings}
 use Rattle.colour.specs.Colour.{codesFit}
 use Rattle.colour.specs.Question.{Question, asks, firstNo}
 use Rattle.model.specs.SampleSet.{octants}
-use Rattle.model.specs.Layout.{current, sampleHeader, sampleRows, octantRows}
+use Rattle.model.specs.Layout.{current, sampleHeader, octantHeader, sampleRows, octantRows}
 use Rattle.model.specs.Tables.{Tables, tablesFor}
 use Rattle.model.specs.Sound.{codesInRange}
 use Rattle.words.specs.Rows.{firstSamples, setOf}
@@ -38,7 +38,7 @@ pub record Rebuilt (qs : List Question) (s : Settings) (n : ℕ) (t : Tables) (r
 -- What the questions before 4 leave to know: both headers are there, and there are rows and scratch for n samples.
 pub record Space (ws os : List ℕ) (n scratch : ℕ) : Type 0 where
   pub sample-words : sampleHeader current ≤ length ws
-  pub octant-words : 1 ≤ length os
+  pub octant-words : octantHeader current ≤ length os
   pub few : n ≤ sampleRows current (length ws)
   pub space : n ≤ scratch
 

@@ -2,7 +2,7 @@
 use Prim.Native.Nat.{ℕ}
 use mathlib.Core.Bool.{Bool, true, false, _&&_}
 use mathlib.Core.List.{List, [], _∷_, _++_, map}
-use mathlib.Core.Option.{Option, none, some}
+use mathlib.Core.Option.{Option, some}
 use lib.Dec.{eqb}
 use lib.ListN.{length}
 use Rattle.colour.specs.declared.Sample.{Sample}
@@ -10,15 +10,7 @@ use Rattle.colour.specs.Colour.{isTag, codesFit}
 use Rattle.sheet.specs.declared.line.Line.{Line}
 use Rattle.sheet.specs.Column.{newline, columnOf}
 use Rattle.sheet.specs.Line.{nameGood, lineBytes}
-use Rattle.sheet.specs.Sheet.{title, countColumns, lineCount, linesFrom}
-
--- What a sheet reads as: its lines; none if its header is not good.
-unfoldable pub readBy : Option ℕ → List ℕ → Option (List (Option Line))
-readBy none s = none
-readBy (some n) s = some (linesFrom s 0 n)
-
-unfoldable pub sheetRead : List ℕ → Option (List (Option Line))
-sheetRead s = readBy (lineCount s) s
+use Rattle.sheet.specs.Sheet.{title, countColumns}
 
 -- What a line is written from.
 pub record Entry : Type 0 where

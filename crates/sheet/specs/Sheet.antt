@@ -102,7 +102,7 @@ namePartFrom tag k (some l ∷ rest) =
       | false ↦ namePartFrom tag (suc k) rest
     ]
 
--- The name lookup: the empty part also if any line is not good, or the header, without which there are no lines.
+-- The name lookup: the empty part also if a line is not good, or if the header is not good, since then there are no lines.
 unfoldable pub namePart : List ℕ → ℕ → Part
 namePart s tag = elim (allGood (linesOf s)) [ true ↦ namePartFrom tag 0 (linesOf s) | false ↦ emptyPart ]
 

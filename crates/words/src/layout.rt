@@ -141,7 +141,7 @@ fn lesser(said: u32, rows: usize) -> u32
 
 // The rows below which an octant may be entered, whatever the words are.
 pub fn octant_limit(octants: &[u32]) -> u32
-    requires { ⌜ 1 ≤ length (now octants) ⌝ }
+    requires { ⌜ octantHeader current ≤ length (now octants) ⌝ }
     ensures { λ r. ⌜ r ≡ octantLimit current (now (octants .entry)) ⌝ }
 {
     let rows = octant_rows(octants.len());
@@ -234,7 +234,7 @@ pub fn put_header(samples: &mut [u32], count: u32, settings: Settings)
 
 // Sets the word before the first octant row.
 pub fn put_count(octants: &mut [u32], count: u32)
-    requires { ⌜ 1 ≤ length (now octants) ⌝ }
+    requires { ⌜ octantHeader current ≤ length (now octants) ⌝ }
     ensures { λ _. ⌜ now (octants .exit) ≡ count ∷ drop (octantHeader current) (now (octants .entry)) ⌝ }
 {
     octants[0] = count;

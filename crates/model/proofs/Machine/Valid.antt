@@ -99,7 +99,7 @@ lines-valid (some l ∷ rest) m k v f =
         rw (loadLines, e) (h (added-valid m (l .sample) v (f .0 .codes) (q12 .1)))
     go false e h = rw (loadLines, e) v
 
--- An accepted call leaves a machine within its tables: one case for each call, and for no other reason than its questions.
+-- An accepted call leaves a machine within its tables: one case for each call.
 accepted-valid : (m : Machine) (c : Call) → Valid current m → firstNo (questions m c) ≡ 0 → Valid current (withSet m (accepted m c .set))
 unfolding questions accepted withSet startOn
 accepted-valid m (Clear s) v z = started-valid s (m .sampleLength) (m .octantLength) (v .sample-words) (v .octant-words) z

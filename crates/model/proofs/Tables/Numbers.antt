@@ -13,7 +13,7 @@ pub record Numbers : Type 0 where
   pub octant-rows : (len : ℕ) → octantRows current len ≡ (len - 1) / 11
 
 pub current-numbers : Numbers
-unfolding current sampleHeader sampleWidth octantHeader octantWidth sampleRows octantRows
+unfolding current sampleHeader sampleWidth octantWidth sampleRows octantRows
 current-numbers =
     record {
       sample-header = refl;

@@ -85,6 +85,6 @@ module _ (L : Layout) where
       go false e ih = rw (e, octantRowsOf, octantsOf) (one-row-length b (suc j) at xs)
 
   pub octant-words-fit : (set : SampleSet) (len : ℕ) → octantHeader L ≤ len → octants set ≤ octantRows L len → length (octantWords L set) ≤ len
-  unfolding octantWords octantHeader octantRows octants
+  unfolding octantWords octantRows octants
   octant-words-fit set len h f =
       omega (arith, octant-rows-length (set .settings .bucket) depths 0 (placed set), rows-within (octants set) (len - 1) (octantWidth L) f)

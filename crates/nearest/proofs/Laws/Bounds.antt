@@ -34,16 +34,16 @@ reaches-row os row d s e =
 
 module _ (budget limit : ℕ) where
   -- One octant more may be entered below the limit.
-  pub entering-sane : (s : Search) → s .entered < limit → SearchWithin budget limit s → SearchWithin budget limit (searchEntering s)
+  pub entering-within : (s : Search) → s .entered < limit → SearchWithin budget limit s → SearchWithin budget limit (searchEntering s)
   unfolding searchEntering
-  entering-sane s h k = record { entered = h; visited = k .visited }
+  entering-within s h k = record { entered = h; visited = k .visited }
 
   -- Turns that each stay within the bounds stay within them one after the other.
-  pub turns-sane : (F : ℕ → Search → Search) → ((k : ℕ) (u : Search) → SearchWithin budget limit u → SearchWithin budget limit (F k u))
+  pub turns-within : (F : ℕ → Search → Search) → ((k : ℕ) (u : Search) → SearchWithin budget limit u → SearchWithin budget limit (F k u))
       → (n : ℕ) (s : Search) → SearchWithin budget limit s → SearchWithin budget limit (inTurn F n s)
   unfolding inTurn
-  turns-sane F h zero s k = k
-  turns-sane F h (suc n) s k = h n (inTurn F n s) (turns-sane F h n s k)
+  turns-within F h zero s k = k
+  turns-within F h (suc n) s k = h n (inTurn F n s) (turns-within F h n s k)
 
 module _ (ws os : List ℕ) (c : Colour) where
   abbrev budget : ℕ
@@ -53,17 +53,17 @@ module _ (ws os : List ℕ) (c : Colour) where
   limit = octantLimit current os
 
   -- An octant's own samples are measured within the budget, whatever the limit.
-  pub own-sane : (most row : ℕ) (s : Search) → SearchWithin budget most s → SearchWithin budget most (ownSearch ws os c row s)
+  pub own-within : (most row : ℕ) (s : Search) → SearchWithin budget most s → SearchWithin budget most (ownSearch ws os c row s)
   unfolding ownSearch
-  own-sane most row s k =
+  own-within most row s k =
       record { entered = k .entered; visited = omega (arith, own-few ws os row (s .visited), k .visited) }
 
   -- A child that is entered, or not, leaves the search within the bounds, where a search below it does.
-  pub child-sane : (below : ℕ → Colour → Search → Search) (side row : ℕ) (low : Colour)
+  pub child-within : (below : ℕ → Colour → Search → Search) (side row : ℕ) (low : Colour)
       → ((at : ℕ) (l : Colour) (u : Search) → u .entered < limit → SearchWithin budget limit u → SearchWithin budget limit (below at l u))
       → (k : ℕ) (u : Search) → SearchWithin budget limit u → SearchWithin budget limit (childSearch os c below side row low k u)
   unfolding childSearch
-  child-sane below side row low h k u sane = go (reaches os at d u) refl
+  child-within below side row low h k u limits = go (reaches os at d u) refl
     where
       at : ℕ
       at = octantField current os row (Child k)
@@ -72,35 +72,35 @@ module _ (ws os : List ℕ) (c : Colour) where
       d = distance c (closest c side (childLow side k low))
 
       go : (r : Bool) → reaches os at d u ≡ r → SearchWithin budget limit (childSearch os c below side row low k u)
-      go true e = rw (e, childSearch) (h at (childLow side k low) u (reaches-row os at d u e .1 .1 .0) sane)
-      go false e = rw (e, childSearch) sane
+      go true e = rw (e, childSearch) (h at (childLow side k low) u (reaches-row os at d u e .1 .1 .0) limits)
+      go false e = rw (e, childSearch) limits
 
   -- An octant that may be entered is searched within the bounds.
-  pub search-sane : (j row : ℕ) (low : Colour) (s : Search) → s .entered < limit → SearchWithin budget limit s
+  pub search-within : (j row : ℕ) (low : Colour) (s : Search) → s .entered < limit → SearchWithin budget limit s
       → SearchWithin budget limit (searchOf ws os c j row low s)
   unfolding searchOf
-  search-sane zero row low s h k = own-sane limit row (searchEntering s) (entering-sane budget limit s h k)
-  search-sane (suc j) row low s h k = go (endsAt (suc j) false (octantField current os row Count) (settingsIn current ws .bucket)) refl (search-sane j)
+  search-within zero row low s h k = own-within limit row (searchEntering s) (entering-within budget limit s h k)
+  search-within (suc j) row low s h k = go (endsAt (suc j) false (octantField current os row Count) (settingsIn current ws .bucket)) refl (search-within j)
     where
       go : (r : Bool) → endsAt (suc j) false (octantField current os row Count) (settingsIn current ws .bucket) ≡ r
           → ((at : ℕ) (l : Colour) (u : Search) → u .entered < limit → SearchWithin budget limit u → SearchWithin budget limit (searchOf ws os c j at l u))
           → SearchWithin budget limit (searchOf ws os c (suc j) row low s)
-      go true e ih = rw (e, searchOf) (own-sane limit row (searchEntering s) (entering-sane budget limit s h k))
+      go true e ih = rw (e, searchOf) (own-within limit row (searchEntering s) (entering-within budget limit s h k))
       go false e ih =
           rw (e, searchOf)
-          (turns-sane budget limit _ (λ i. child-sane (searchOf ws os c j) (2 ^ j) row low ih (turnChild c (2 ^ j) low i)) children (searchEntering s)
-          (entering-sane budget limit s h k))
+          (turns-within budget limit _ (λ i. child-within (searchOf ws os c j) (2 ^ j) row low ih (turnChild c (2 ^ j) low i)) children (searchEntering s)
+          (entering-within budget limit s h k))
 
   -- Before a search nothing is entered and nothing visited.
-  pub no-search-sane : (r : ℕ) → SearchWithin budget limit (noSearch r)
+  pub no-search-within : (r : ℕ) → SearchWithin budget limit (noSearch r)
   unfolding noSearch
-  no-search-sane r = record { entered = omega arith; visited = omega arith }
+  no-search-within r = record { entered = omega arith; visited = omega arith }
 
   -- The whole search stays within the bounds.
-  pub search-all-sane : (r : ℕ) → SearchWithin budget limit (searchAll ws os c r)
+  pub search-all-within : (r : ℕ) → SearchWithin budget limit (searchAll ws os c r)
   unfolding searchAll noSearch
-  search-all-sane r = go (ltb 0 limit) refl
+  search-all-within r = go (ltb 0 limit) refl
     where
       go : (t : Bool) → ltb 0 limit ≡ t → SearchWithin budget limit (searchAll ws os c r)
-      go true e = rw (e, searchAll) (search-sane depths 0 black (noSearch r) (ltb-true _ _ e) (no-search-sane r))
-      go false e = rw (e, searchAll) (no-search-sane r)
+      go true e = rw (e, searchAll) (search-within depths 0 black (noSearch r) (ltb-true _ _ e) (no-search-within r))
+      go false e = rw (e, searchAll) (no-search-within r)

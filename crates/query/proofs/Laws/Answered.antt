@@ -32,7 +32,7 @@ use Rattle.listing.proofs.Laws.Answers.Answered.{pass-listing, pass-fits, pass-
 use Rattle.nearest.specs.declared.best.Best.{Best}
 use Rattle.nearest.specs.Best.{bestAnswer}
 use Rattle.nearest.specs.Search.{searchAll}
-use Rattle.nearest.proofs.Laws.Bounds.{search-all-sane}
+use Rattle.nearest.proofs.Laws.Bounds.{search-all-within}
 use Rattle.nearest.proofs.Laws.Sound.Found.{search-nearest}
 use Rattle.query.specs.Answers.{rawWanted, rawAnswer, Bounds, AskMeets}
 use Rattle.query.proofs.Laws.Machine.{query-same, query-refused, query-wanted}
@@ -50,9 +50,9 @@ module _ (t : Tables) (l : List ℕ) where
         entered = e;
         listed = n;
         measured = m;
-        visited = λ R. pass-bounded (t .samples) (t .octants) R .sane .visited;
-        searched = λ c r. search-all-sane (t .samples) (t .octants) c r .visited;
-        reached = λ c r. search-all-sane (t .samples) (t .octants) c r .entered;
+        visited = λ R. pass-bounded (t .samples) (t .octants) R .limits .visited;
+        searched = λ c r. search-all-within (t .samples) (t .octants) c r .visited;
+        reached = λ c r. search-all-within (t .samples) (t .octants) c r .entered;
         room = r;
       }
 
@@ -71,7 +71,7 @@ module _ (t : Tables) (l : List ℕ) where
       go true e =
           let b = pass-bounded (t .samples) (t .octants) R in
           rw (pass-fits v l (leb-true (length (v .tags)) (length l) e))
-          (bounded _ (omega (arith, b .sane .entered, b .sane .next)) (tags-budget (t .samples) (t .octants) R) (omega (arith, b .sane .measured, b .sane .visited)) (λ _ z. omega arith))
+          (bounded _ (omega (arith, b .limits .entered, b .limits .next)) (tags-budget (t .samples) (t .octants) R) (omega (arith, b .limits .measured, b .limits .visited)) (λ _ z. omega arith))
       go false e =
           rw (pass-short v l (leb-false (length (v .tags)) (length l) e))
           (refusal-bounds 13 (λ h _. omega (arith, h, leb-false (length (v .tags)) (length l) e, tags-budget (t .samples) (t .octants) R)))

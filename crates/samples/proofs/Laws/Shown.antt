@@ -8,7 +8,7 @@ use lib.ListN.{length}
 use Rattle.colour.specs.declared.Sample.{Sample}
 use Rattle.colour.specs.declared.Settings.{Settings}
 use Rattle.model.specs.SampleSet.{SampleSet, octants}
-use Rattle.model.specs.Layout.{current, sampleHeader, sampleRows, octantRows}
+use Rattle.model.specs.Layout.{current, sampleHeader, octantHeader, sampleRows, octantRows}
 use Rattle.model.specs.Tables.{pair, tablesFor}
 use Rattle.model.specs.Machine.{Machine, tablesOf, hasTag, withSet, withSamples}
 use Rattle.model.specs.Sound.{Shows, Sound, distinct, codesInRange}
@@ -32,7 +32,7 @@ module _ (ws os : List ℕ) (m : Machine) (shows : Shows current m (pair ws os))
   pub count-few : countIn ws ≤ sampleRows current (length ws)
   count-few = omega (arith, count-shown ws os m shows, ap (sampleRows current) (sample-length ws os m shows), shows .valid .rows-fit)
 
-  pub both-headed : (sampleHeader current ≤ length ws) × (1 ≤ length os)
+  pub both-headed : (sampleHeader current ≤ length ws) × (octantHeader current ≤ length os)
   both-headed = both-long ws os (shown-long (pair ws os) (record { machine = m; shows = shows }))
 
   -- A set read off rows, with those settings: the machine's with other samples.
@@ -74,7 +74,7 @@ module _ (ws os : List ℕ) (m : Machine) (shows : Shows current m (pair ws os))
 
 -- The words and the rows that the inner calls work on are there; n is the count.
 module _ (ws os : List ℕ) (sound : Sound current (pair ws os)) where
-  pub headers-there : (sampleHeader current ≤ length ws) × (1 ≤ length os)
+  pub headers-there : (sampleHeader current ≤ length ws) × (octantHeader current ≤ length os)
   headers-there = both-headed ws os (sound .machine) (sound .shows)
 
   pub rows-there : (n : ℕ) → n ≡ countIn ws → n ≤ sampleRows current (length ws)

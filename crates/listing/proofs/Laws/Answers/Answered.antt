@@ -54,4 +54,4 @@ module _ (v : Visit) (l : List ℕ) where
 -- A pass lists no more than it may visit.
 pub tags-budget : (ws os : List ℕ) (R : Region) → length (passOf ws os R .tags) ≤ sampleBudget current ws
 unfolding noTally
-tags-budget ws os R = let b = pass-bounded ws os R in omega (arith, b .listed, b .sane .visited)
+tags-budget ws os R = let b = pass-bounded ws os R in omega (arith, b .listed, b .limits .visited)

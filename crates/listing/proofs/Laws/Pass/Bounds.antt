@@ -24,7 +24,7 @@ use Rattle.listing.proofs.Laws.Pass.Tags.{tags-few}
 
 -- A visit that begins with tally t stays within them, and lists only what it visits.
 pub record Bounded (budget limit : ℕ) (t : Tally) (v : Visit) : Type 0 where
-  pub sane : TallyWithin budget limit (v .after)
+  pub limits : TallyWithin budget limit (v .after)
   pub listed : t .visited + length (v .tags) ≤ v .after .visited
 
 -- What `enters` says of a row.
@@ -39,13 +39,13 @@ enters-row os R s low row t e =
 module _ (budget limit : ℕ) where
   pub nothing-bounded : (t : Tally) → TallyWithin budget limit t → Bounded budget limit t (nothing t)
   unfolding nothing
-  nothing-bounded t s = record { sane = s; listed = omega arith }
+  nothing-bounded t s = record { limits = s; listed = omega arith }
 
   then-bounded : (t : Tally) (v : Visit) (f : Tally → Visit) → Bounded budget limit t v → Bounded budget limit (v .after) (f (v .after))
       → Bounded budget limit t (andThen v f)
   unfolding andThen
   then-bounded t v f h k =
-      record { sane = k .sane; listed = omega (arith, h .listed, k .listed, length-append (v .tags) (f (v .after) .tags)) }
+      record { limits = k .limits; listed = omega (arith, h .listed, k .listed, length-append (v .tags) (f (v .after) .tags)) }
 
   pub turns-bounded : (f : ℕ → Tally → Visit) → ((k : ℕ) (u : Tally) → TallyWithin budget limit u → Bounded budget limit u (f k u))
       → (n : ℕ) (t : Tally) → TallyWithin budget limit t → Bounded budget limit t (visitEach f n t)
@@ -53,18 +53,18 @@ module _ (budget limit : ℕ) where
   turns-bounded f h zero t s = nothing-bounded t s
   turns-bounded f h (suc n) t s =
       let b = turns-bounded f h n t s in
-      then-bounded t (visitEach f n t) (f n) b (h n (visitEach f n t .after) (b .sane))
+      then-bounded t (visitEach f n t) (f n) b (h n (visitEach f n t .after) (b .limits))
 
   -- An octant is entered in a row that is not passed yet.
-  pub entering-sane : (row : ℕ) (t : Tally) → t .next ≤ row → row < limit → TallyWithin budget limit t → TallyWithin budget limit (tallyEntering row t)
+  pub entering-within : (row : ℕ) (t : Tally) → t .next ≤ row → row < limit → TallyWithin budget limit t → TallyWithin budget limit (tallyEntering row t)
   unfolding tallyEntering
-  entering-sane row t p b s =
+  entering-within row t p b s =
       record { entered = omega (arith, s .entered); next = omega arith; measured = s .measured; visited = s .visited }
 
-  visiting-sane : (whole : Bool) (n : ℕ) (t : Tally) → n ≤ budget - t .visited → TallyWithin budget limit t → TallyWithin budget limit (visiting whole n t)
+  visiting-within : (whole : Bool) (n : ℕ) (t : Tally) → n ≤ budget - t .visited → TallyWithin budget limit t → TallyWithin budget limit (visiting whole n t)
   unfolding visiting measuredAfter
-  visiting-sane true n t f s = record { entered = s .entered; next = s .next; measured = omega (arith, s .measured); visited = omega (arith, s .visited) }
-  visiting-sane false n t f s = record { entered = s .entered; next = s .next; measured = omega (arith, s .measured); visited = omega (arith, s .visited) }
+  visiting-within true n t f s = record { entered = s .entered; next = s .next; measured = omega (arith, s .measured); visited = omega (arith, s .visited) }
+  visiting-within false n t f s = record { entered = s .entered; next = s .next; measured = omega (arith, s .measured); visited = omega (arith, s .visited) }
 
 module _ (ws os : List ℕ) (R : Region) where
   abbrev budget : ℕ
@@ -77,33 +77,33 @@ module _ (ws os : List ℕ) (R : Region) where
   unfolding ownSamples visiting
   own-bounded whole row t s =
       record {
-        sane = visiting-sane budget limit whole (length (ownRows ws os row (t .visited))) t (own-few ws os row (t .visited)) s;
+        limits = visiting-within budget limit whole (length (ownRows ws os row (t .visited))) t (own-few ws os row (t .visited)) s;
         listed = omega (arith, tags-few ws R whole (ownRows ws os row (t .visited)));
       }
 
   -- From the tally before the octant was entered, which has visited as many.
   from-entering : (row : ℕ) (t : Tally) (v : Visit) → Bounded budget limit (tallyEntering row t) v → Bounded budget limit t v
   unfolding tallyEntering
-  from-entering row t v h = record { sane = h .sane; listed = h .listed }
+  from-entering row t v h = record { limits = h .limits; listed = h .listed }
 
   pub child-bounded : (below : ℕ → Colour → Tally → Visit) (s row : ℕ) (low : Colour)
       → ((at : ℕ) (l : Colour) (u : Tally) → u .next ≤ at → at < limit → TallyWithin budget limit u → Bounded budget limit u (below at l u))
       → (k : ℕ) (u : Tally) → TallyWithin budget limit u → Bounded budget limit u (childVisit os R below s row low k u)
   unfolding childVisit
-  child-bounded below s row low h k u sane = go (enters os R s (childLow s k low) (octantField current os row (Child k)) u) refl
+  child-bounded below s row low h k u limits = go (enters os R s (childLow s k low) (octantField current os row (Child k)) u) refl
     where
       go : (r : Bool) → enters os R s (childLow s k low) (octantField current os row (Child k)) u ≡ r
           → Bounded budget limit u (childVisit os R below s row low k u)
       go true e =
           let w = enters-row os R s (childLow s k low) (octantField current os row (Child k)) u e in
-          rw (e, childVisit) (h (octantField current os row (Child k)) (childLow s k low) u (w .1 .0) (w .1 .1) sane)
-      go false e = rw (e, childVisit) (nothing-bounded budget limit u sane)
+          rw (e, childVisit) (h (octantField current os row (Child k)) (childLow s k low) u (w .1 .0) (w .1 .1) limits)
+      go false e = rw (e, childVisit) (nothing-bounded budget limit u limits)
 
   pub visit-bounded : (j row : ℕ) (low : Colour) (t : Tally) → t .next ≤ row → row < limit → TallyWithin budget limit t
       → Bounded budget limit t (visitOf ws os R j row low t)
   unfolding visitOf
   visit-bounded zero row low t p b s =
-      from-entering row t _ (own-bounded (inside R (2 ^ zero) low) row (tallyEntering row t) (entering-sane budget limit row t p b s))
+      from-entering row t _ (own-bounded (inside R (2 ^ zero) low) row (tallyEntering row t) (entering-within budget limit row t p b s))
   visit-bounded (suc j) row low t p b s = go (ends ws os R (suc j) row low) refl (λ at l u. visit-bounded j at l u)
     where
       go : (r : Bool) → ends ws os R (suc j) row low ≡ r
@@ -111,16 +111,16 @@ module _ (ws os : List ℕ) (R : Region) where
           → Bounded budget limit t (visitOf ws os R (suc j) row low t)
       go true e ih =
           rw (e, visitOf)
-          (from-entering row t _ (own-bounded (inside R (2 ^ suc j) low) row (tallyEntering row t) (entering-sane budget limit row t p b s)))
+          (from-entering row t _ (own-bounded (inside R (2 ^ suc j) low) row (tallyEntering row t) (entering-within budget limit row t p b s)))
       go false e ih =
           rw (e, visitOf)
           (from-entering row t _
           (turns-bounded budget limit (childVisit os R (visitOf ws os R j) (2 ^ j) row low) (child-bounded (visitOf ws os R j) (2 ^ j) row low ih)
-          children (tallyEntering row t) (entering-sane budget limit row t p b s)))
+          children (tallyEntering row t) (entering-within budget limit row t p b s)))
 
-  pub no-tally-sane : TallyWithin budget limit noTally
+  pub no-tally-within : TallyWithin budget limit noTally
   unfolding noTally
-  no-tally-sane = record { entered = omega arith; next = omega arith; measured = omega arith; visited = omega arith }
+  no-tally-within = record { entered = omega arith; next = omega arith; measured = omega arith; visited = omega arith }
 
   -- The whole pass.
   pub pass-bounded : Bounded budget limit noTally (passOf ws os R)
@@ -130,5 +130,5 @@ module _ (ws os : List ℕ) (R : Region) where
       go : (r : Bool) → enters os R (2 ^ depths) black 0 noTally ≡ r → Bounded budget limit noTally (passOf ws os R)
       go true e =
           let w = enters-row os R (2 ^ depths) black 0 noTally e in
-          rw (e, passOf) (visit-bounded depths 0 black noTally (w .1 .0) (w .1 .1) no-tally-sane)
-      go false e = rw (e, passOf) (nothing-bounded budget limit noTally no-tally-sane)
+          rw (e, passOf) (visit-bounded depths 0 black noTally (w .1 .0) (w .1 .1) no-tally-within)
+      go false e = rw (e, passOf) (nothing-bounded budget limit noTally no-tally-within)

@@ -11,23 +11,23 @@ use Rattle.colour.specs.declared.Region.{Region}
 use Rattle.colour.specs.Colour.{black}
 use Rattle.colour.specs.Octant.{depths, sideAt, rootCube}
 use Rattle.colour.specs.Region.{overlaps}
-use Rattle.model.specs.Layout.{current, sampleHeader}
+use Rattle.model.specs.Layout.{current, sampleHeader, octantHeader}
 use Rattle.words.specs.Rows.{octantLimit, sampleBudget}
 use Rattle.listing.specs.Pass.{Tally, Visit, enters, nothing, visitOf, noTally, passOf}
 use Rattle.listing.specs.Steps.{TallyWithin, tallyWords, listedIn, tallyIn, Counting, Visited}
-use Rattle.listing.proofs.Laws.Pass.Bounds.{no-tally-sane, pass-bounded}
+use Rattle.listing.proofs.Laws.Pass.Bounds.{no-tally-within, pass-bounded}
 use Rattle.listing.proofs.Laws.Pass.Turns.{barred, apart-from, let-in}
 use Rattle.listing.proofs.Laws.Steps.Tally.{words-five, words-listed, words-tally}
 use Rattle.listing.proofs.Laws.Steps.Turning.{visited-nothing}
 
 -- What a pass leaves in the words is within the bounds.
-pub pass-sane : (ws os : List ℕ) (R : Region) {words listing words′ listing′ : List ℕ} → Visited (passOf ws os R) words listing words′ listing′
+pub pass-within : (ws os : List ℕ) (R : Region) {words listing words′ listing′ : List ℕ} → Visited (passOf ws os R) words listing words′ listing′
     → Visited (passOf ws os R) words listing words′ listing′ × TallyWithin (sampleBudget current ws) (octantLimit current os) (tallyIn words′)
-pass-sane ws os R {words} d =
+pass-within ws os R {words} d =
     let v : Visit = passOf ws os R in (
       d,
       subst (TallyWithin (sampleBudget current ws) (octantLimit current os))
-          (sym (ap tallyIn (d .tally) ∙ words-tally (listedIn words + length (v .tags)) (v .after))) (pass-bounded ws os R .sane),
+          (sym (ap tallyIn (d .tally) ∙ words-tally (listedIn words + length (v .tags)) (v .after))) (pass-bounded ws os R .limits),
     )
 
 module _ (ws os : List ℕ) (R : Region) (words : List ℕ) (fresh : words ≡ tallyWords 0 noTally) where
@@ -37,14 +37,14 @@ module _ (ws os : List ℕ) (R : Region) (words : List ℕ) (fresh : words ≡ t
   five : length words ≡ 5
   five = ap length fresh ∙ words-five 0 noTally
 
-  pub fresh-counting : sampleHeader current ≤ length ws → 1 ≤ length os → octantLimit current os < 4294967296 → Counting ws os words
+  pub fresh-counting : sampleHeader current ≤ length ws → octantHeader current ≤ length os → octantLimit current os < 4294967296 → Counting ws os words
   fresh-counting a b s =
       record {
         samples = a;
         octants = b;
         small = s;
         five = five;
-        sane = subst (TallyWithin (sampleBudget current ws) (octantLimit current os)) (sym said) (no-tally-sane ws os R);
+        limits = subst (TallyWithin (sampleBudget current ws) (octantLimit current os)) (sym said) (no-tally-within ws os R);
         listed = omega (arith, ap listedIn fresh, words-listed 0 noTally);
       }
 

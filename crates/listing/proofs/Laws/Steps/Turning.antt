@@ -43,7 +43,7 @@ module _ {ws os words : List ℕ} (c : Counting ws os words) where
         octants = c .octants;
         small = c .small;
         five = ap length (d .tally) ∙ words-five n (v .after);
-        sane = subst (TallyWithin (sampleBudget current ws) (octantLimit current os)) (sym said) (b .sane);
+        limits = subst (TallyWithin (sampleBudget current ws) (octantLimit current os)) (sym said) (b .limits);
         listed = omega (arith, many, ap (λ (t : Tally). t .visited) said, c .listed, b .listed);
       }
 
@@ -177,5 +177,5 @@ module _ (ws os : List ℕ) (R : Region) (j row : ℕ) (low : Colour) where
     turning-counting c =
         visited-counting c
         (turns-bounded (sampleBudget current ws) (octantLimit current os) turn
-        (child-bounded ws os R (visitOf ws os R j) (2 ^ j) row low (λ a l u. visit-bounded ws os R j a l u)) (g .done) (tallyIn words₀) (c .sane))
+        (child-bounded ws os R (visitOf ws os R j) (2 ^ j) row low (λ a l u. visit-bounded ws os R j a l u)) (g .done) (tallyIn words₀) (c .limits))
         (g .visited)

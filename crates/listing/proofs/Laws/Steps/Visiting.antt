@@ -23,7 +23,7 @@ use Rattle.listing.specs.Steps.{TallyWithin, tallyWords, listedIn, tally
 use Rattle.traversal.specs.Own.{rowsFrom, ownMost, ownRows, endsAt}
 use Rattle.traversal.proofs.Laws.Rows.{budget-most, own-few}
 use Rattle.traversal.proofs.Laws.Cubes.{half-is, child-depth}
-use Rattle.listing.proofs.Laws.Pass.Bounds.{entering-sane}
+use Rattle.listing.proofs.Laws.Pass.Bounds.{entering-within}
 use Rattle.listing.proofs.Laws.Steps.Tally.{words-five, words-listed, words-tally}
 use Rattle.listing.proofs.Laws.Steps.Turning.{turn}
 
@@ -67,7 +67,7 @@ module _ (ws os : List ℕ) (R : Region) (whole : Bool) (row : ℕ) (words : Lis
   -- The listing has room to count them in.
   pub own-start : (most′ start : ℕ) → start ≡ listedIn words → most′ ≡ most → Counting ws os words → start + most′ ≤ 8192
   unfolding ownMost
-  own-start most′ start e m c = omega (arith, c .listed, c .sane .visited, budget-most ws)
+  own-start most′ start e m c = omega (arith, c .listed, c .limits .visited, budget-most ws)
 
   pub own-counted : (first most′ start : ℕ) (run : Run) {listing words′ listing′ : List ℕ} → first ≡ octantField current os row First → most′ ≡ most
       → start ≡ listedIn words → Followed ws R whole first most′ start listing run listing′
@@ -110,9 +110,9 @@ module _ (ws os : List ℕ) (R : Region) (row : ℕ) (cube : Cube) (words words�
         octants = c .octants;
         small = c .small;
         five = ap length into ∙ words-five (listedIn words) (tallyEntering row (tallyIn words));
-        sane =
+        limits =
             subst (TallyWithin (sampleBudget current ws) (octantLimit current os)) (sym said)
-            (entering-sane (sampleBudget current ws) (octantLimit current os) row (tallyIn words) past lim (c .sane));
+            (entering-within (sampleBudget current ws) (octantLimit current os) row (tallyIn words) past lim (c .limits));
         listed = omega (arith, many, ap (λ (t : Tally). t .visited) said, c .listed);
       }
 

@@ -137,7 +137,7 @@ module _ (t : ℕ) where
   enter-requires c κs =
       let s = c .before .before .before .before in
       let k = counting s in
-      (k .five, (omega (arith, k .sane .entered, s .pre), omega (arith, k .small, s .pre)))
+      (k .five, (omega (arith, k .limits .entered, s .pre), omega (arith, k .small, s .pre)))
 
   inside-requires : Here lts.Need-inside-requires
   inside-requires c κs = let p = c .before .before .before .before .before .pre .1 in (p .0, p .1 .0)

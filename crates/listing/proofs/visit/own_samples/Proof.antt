@@ -24,7 +24,7 @@ most-requires : tie.Need-most-requires
 most-requires c κs =
     let s = c .before .before .before .before .before in
     let k = s .pre .1 .0 in
-    ((k .samples, limit-rows _ _ (s .pre .1 .1)), omega (arith, c .visited .ensures, k .sane .visited))
+    ((k .samples, limit-rows _ _ (s .pre .1 .1)), omega (arith, c .visited .ensures, k .limits .visited))
 
 octant-first-requires : tie.Need-octant-first-requires
 octant-first-requires c κs = limit-rows _ _ (c .before .before .before .before .before .before .pre .1 .1)
@@ -44,8 +44,8 @@ count-requires c κs =
     let l = f .before .before .before .before .before in
     let s = l .before .before .before .before .before .before in
     let k = s .pre .1 .0 in
-    let room = own-room _ _ (s .args .region) (s .args .whole) _ _ _ _ _ (f .before .before .before .before .octant-first .ensures) (most-is l) (f .follow .ensures .seen) (k .sane .visited) in
-    (k .five, (k .sane .measured, omega (arith, room, budget-most (s .args .samples .now))))
+    let room = own-room _ _ (s .args .region) (s .args .whole) _ _ _ _ _ (f .before .before .before .before .octant-first .ensures) (most-is l) (f .follow .ensures .seen) (k .limits .visited) in
+    (k .five, (k .limits .measured, omega (arith, room, budget-most (s .args .samples .now))))
 
 same-length : tie.Need-same-length
 same-length c = search needs

@@ -1,7 +1,7 @@
 -- `visit::pass`: the root is visited, or nothing is.
 use native.Mathlib.Omega.{arith}
 use Rattle.listing.proofs.Laws.Steps.Visiting.{allowed-row}
-use Rattle.listing.proofs.Laws.Steps.Passing.{pass-sane, fresh-counting, root-barred, root-apart, root-visited}
+use Rattle.listing.proofs.Laws.Steps.Passing.{pass-within, fresh-counting, root-barred, root-apart, root-visited}
 use borrow.Author.Needs.{needs}
 use Rattle.listing.proofs.visit.pass.Statement.{statement}
 use Rattle.listing.proofs.visit.pass.Tie as tie
@@ -36,7 +36,7 @@ returns c =
     let o = v .before .before .before .before in
     let m = o .before .before in
     let t = m .before .before in
-    pass-sane _ _ _
+    pass-within _ _ _
     (root-visited _ _ _ _ (t .before .before .before .before .before .pre .1 .1) _ (t .root .ensures .0) _ _ (t .before .octant-limit .ensures) (m .may-enter .ensures) _ (o .overlaps .ensures)
     (o .before .if1 .taken) (v .before .before .before .if2 .taken) (v .visit .ensures))
 
@@ -45,13 +45,13 @@ returns-2 c =
     let o = c .before in
     let m = o .before .before in
     let t = m .before .before in
-    pass-sane _ _ _ (root-apart _ _ _ _ (t .before .before .before .before .before .pre .1 .1) _ (t .root .ensures .0) _ _ (t .before .octant-limit .ensures) (m .may-enter .ensures) _ (o .overlaps .ensures) (c .if2 .left))
+    pass-within _ _ _ (root-apart _ _ _ _ (t .before .before .before .before .before .pre .1 .1) _ (t .root .ensures .0) _ _ (t .before .octant-limit .ensures) (m .may-enter .ensures) _ (o .overlaps .ensures) (c .if2 .left))
 
 returns-3 : tie.Need-returns-3
 returns-3 c =
     let m = c .before in
     let t = m .before .before in
-    pass-sane _ _ _ (root-barred _ _ _ _ (t .before .before .before .before .before .pre .1 .1) _ (t .root .ensures .0) _ _ (t .before .octant-limit .ensures) (m .may-enter .ensures) (c .if1 .left))
+    pass-within _ _ _ (root-barred _ _ _ _ (t .before .before .before .before .before .pre .1 .1) _ (t .root .ensures .0) _ _ (t .before .octant-limit .ensures) (m .may-enter .ensures) (c .if1 .left))
 
 pub pass-spec : {M : Type 1} → statement M
 pass-spec =

@@ -17,7 +17,7 @@ use Rattle.colour.specs.Octant.{depths, sideAt, children, childLow, childCube}
 use Rattle.colour.specs.Region.{closest}
 use Rattle.colour.specs.Nearby.{closestChild, gapsOf, closestBy}
 use Rattle.colour.proofs.Laws.Nearby.{closest-by}
-use Rattle.model.specs.Layout.{First, Count, Child, current, sampleHeader}
+use Rattle.model.specs.Layout.{First, Count, Child, current, sampleHeader, octantHeader}
 use Rattle.words.specs.Rows.{settingsIn, octantField, octantLimit, sampleBudget}
 use Rattle.traversal.specs.Own.{rowsFrom, ownMost, ownRows, endsAt}
 use Rattle.traversal.proofs.Laws.Rows.{own-few}
@@ -30,7 +30,7 @@ use Rattle.nearest.specs.Turns.{inTurn}
 use Rattle.nearest.specs.Search.{measureRows, searchEntering, ownSearch, reaches, childSearch, turnChild, searchOf, noSearch, searchAll}
 use Rattle.nearest.specs.Steps.{Measured, Ready}
 use Rattle.nearest.proofs.Laws.Entered.{turned-off, turned-in}
-use Rattle.nearest.proofs.Laws.Bounds.{reaches-row, entering-sane, turns-sane, child-sane, search-sane, no-search-sane}
+use Rattle.nearest.proofs.Laws.Bounds.{reaches-row, entering-within, turns-within, child-within, search-within, no-search-within}
 
 -- An octant's own samples, measured by their next words.
 module _ (ws os : List ℕ) (c : Colour) (row : ℕ) (s : Search) (count : ℕ) (run : Run) {first : ℕ} (starts : first ≡ octantField current os row First)
@@ -77,7 +77,7 @@ module _ (ws os : List ℕ) (c : Colour) (row : ℕ) (low : Colour) where
         samples = r .samples;
         octants = r .octants;
         small = r .small;
-        sane = entering-sane (sampleBudget current ws) (octantLimit current os) s h (r .sane);
+        limits = entering-within (sampleBudget current ws) (octantLimit current os) s h (r .limits);
       }
 
   -- A search that stands after some turns is within the bounds.
@@ -87,9 +87,9 @@ module _ (ws os : List ℕ) (c : Colour) (row : ℕ) (low : Colour) where
         samples = r .samples;
         octants = r .octants;
         small = r .small;
-        sane =
-            turns-sane (sampleBudget current ws) (octantLimit current os) (turnAt j)
-            (λ i. child-sane ws os c (searchOf ws os c j) (2 ^ j) row low (search-sane ws os c j) (turnChild c (2 ^ j) low i)) m s (r .sane);
+        limits =
+            turns-within (sampleBudget current ws) (octantLimit current os) (turnAt j)
+            (λ i. child-within ws os c (searchOf ws os c j) (2 ^ j) row low (search-within ws os c j) (turnChild c (2 ^ j) low i)) m s (r .limits);
       }
 
 -- A split octant has depths below it.
@@ -176,7 +176,7 @@ module _ (ws os : List ℕ) (c : Colour) (r : ℕ) where
   from-root h = rw (lt-ltb 0 (octantLimit current os) h, searchAll)
 
   -- The root is entered within the bounds.
-  pub starting : sampleHeader current ≤ length ws → 1 ≤ length os → octantLimit current os < 4294967296 → 0 < octantLimit current os
+  pub starting : sampleHeader current ≤ length ws → octantHeader current ≤ length os → octantLimit current os < 4294967296 → 0 < octantLimit current os
       → (Ready ws os (noSearch r)) × (noSearch r .entered < octantLimit current os)
   unfolding noSearch
-  starting a b l h = (record { samples = a; octants = b; small = l; sane = no-search-sane ws os c r }, h)
+  starting a b l h = (record { samples = a; octants = b; small = l; limits = no-search-within ws os c r }, h)

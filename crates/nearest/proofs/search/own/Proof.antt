@@ -8,7 +8,7 @@ use Rattle.nearest.proofs.search.own.Statement.{statement}
 use Rattle.nearest.proofs.search.own.Tie as tie
 
 most-requires : tie.Need-most-requires
-most-requires c κs = let s = c .before .before in ((s .pre .1 .0 .samples, limit-rows _ _ (s .pre .1 .1)), s .pre .1 .0 .sane .visited)
+most-requires c κs = let s = c .before .before in ((s .pre .1 .0 .samples, limit-rows _ _ (s .pre .1 .1)), s .pre .1 .0 .limits .visited)
 
 octant-first-requires : tie.Need-octant-first-requires
 octant-first-requires c κs = limit-rows _ _ (c .before .before .before .pre .1 .1)
@@ -20,7 +20,7 @@ add-t11 : tie.Need-add-t11
 add-t11 c =
     let r = c .before .before .before in
     let s = r .before .before .before .before .before .before in
-    omega (arith, own-room _ _ _ _ (s .args .search) _ _ (r .before .before .octant-first .ensures) (r .before .before .before .most .ensures) (r .measure .ensures) (s .pre .1 .0 .sane .visited), budget-most (s .args .samples .now))
+    omega (arith, own-room _ _ _ _ (s .args .search) _ _ (r .before .before .octant-first .ensures) (r .before .before .before .most .ensures) (r .measure .ensures) (s .pre .1 .0 .limits .visited), budget-most (s .args .samples .now))
 
 returns : tie.Need-returns
 returns c =

@@ -166,7 +166,7 @@ module _ (ws os : List ℕ) where
       (λ m s. omega (arith, count-shown ws os m s, ap (sampleRows current) (sample-length ws os m s), s .valid .rows-fit))
 
 -- What the header's tests leave: long is what was said of the lengths, k the count, and n the places lent for it.
-pub both-long : (ws os : List ℕ) → longEnough current (pair ws os) ≡ true → (sampleHeader current ≤ length ws) × (1 ≤ length os)
+pub both-long : (ws os : List ℕ) → longEnough current (pair ws os) ≡ true → (sampleHeader current ≤ length ws) × (octantHeader current ≤ length os)
 unfolding longEnough
 both-long ws os long =
     let h = and-eq-true-iff (leb (sampleHeader current) (length ws)) (leb (octantHeader current) (length os)) .0 long in (

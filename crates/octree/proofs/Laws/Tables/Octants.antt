@@ -36,13 +36,13 @@ module _ (b : ℕ) (es : List ℕ) where
   named-octants-length = ap suc (octant-rows-length current b depths 0 (view es)) ∙ sym (after-count count)
 
   -- An octant table of that count whose rows are the definition's.
-  rows-named : (os : List ℕ) → 1 ≤ length os → countIn os ≡ count → take (octantWidth current * count) (drop 1 os) ≡ rowsOf b depths 0 es
+  rows-named : (os : List ℕ) → octantHeader current ≤ length os → countIn os ≡ count → take (octantWidth current * count) (drop 1 os) ≡ rowsOf b depths 0 es
       → take (octantStart current count) os ≡ namedOctants
   unfolding countIn
   rows-named [] h c e = absurd (omega arith)
   rows-named (o ∷ os) h c e = ap (λ (k : ℕ). take k (o ∷ os)) (after-count count) ∙ ap₂ (λ (n : ℕ) (l : List ℕ). n ∷ l) c e
 
-  named-rows : (os : List ℕ) → 1 ≤ length os → take (octantStart current count) os ≡ namedOctants
+  named-rows : (os : List ℕ) → octantHeader current ≤ length os → take (octantStart current count) os ≡ namedOctants
       → (countIn os ≡ count) × (take (octantWidth current * count) (drop 1 os) ≡ rowsOf b depths 0 es)
   unfolding countIn
   named-rows [] h e = absurd (omega arith)
@@ -50,7 +50,7 @@ module _ (b : ℕ) (es : List ℕ) where
       let both : o ∷ take (octantWidth current * count) os ≡ namedOctants = ap (λ (k : ℕ). take k (o ∷ os)) (sym (after-count count)) ∙ e in
       (ap (λ (l : List ℕ). getD l 0 0) both, ap (drop 1) both)
 
-  module _ (os : List ℕ) (header : 1 ≤ length os) where
+  module _ (os : List ℕ) (header : octantHeader current ≤ length os) where
     octants-hold : countIn os ≡ count → take (octantWidth current * count) (drop 1 os) ≡ rowsOf b depths 0 es
         → ZeroFrom (octantStart current count) os → os ≡ octantTableBy (length os) b es
     unfolding octantTableBy
@@ -70,12 +70,12 @@ octants-part os start e = part-tail os start ∙ ap (λ (k : ℕ). drop k os) (e
 
 -- Entries that come to n octants, whose rows find their place in the table.
 pub record Fitting (b : ℕ) (es os : List ℕ) (n : ℕ) : Type 0 where
-  pub header : 1 ≤ length os
+  pub header : octantHeader current ≤ length os
   pub few : length es ≤ 4096
   pub counted : n ≡ octantsOf b depths (view es)
   pub rows-fit : n ≤ octantRows current (length os)
 
-pub fitting : (b : ℕ) (es os : List ℕ) (n : ℕ) → 1 ≤ length os → length es ≤ 4096 → n ≡ octantsOf b depths (view es)
+pub fitting : (b : ℕ) (es os : List ℕ) (n : ℕ) → octantHeader current ≤ length os → length es ≤ 4096 → n ≡ octantsOf b depths (view es)
     → n ≤ octantRows current (length os) → Fitting b es os n
 fitting b es os n h f c r = record { header = h; few = f; counted = c; rows-fit = r }
 
@@ -155,7 +155,6 @@ module _ {b : ℕ} {es os₀ : List ℕ} {used : ℕ} (fits : Fitting b es os₀
       ∙ drop-at (take 1 os₀) rows 1 (length-take-le 1 os₀ (fits .header))
 
   octants-headed : take (octantStart current used) os₂ ≡ namedOctants b es
-  unfolding octantHeader
   octants-headed =
       let w : ℕ = octantWidth current in
       ap₂ (λ (k : ℕ) (l : List ℕ). take k l) (after-count used) headed-by

@@ -2,14 +2,14 @@
 use Prim.Native.Nat.{ℕ, zero, suc, _+_, _^_, _≤_, _<_}
 use mathlib.Core.Bool.{true}
 use mathlib.Core.List.{List, [], _∷_, _++_, append-assoc}
-use mathlib.Core.Option.{Option, none, some, Option·none-ne-some, Option·some-injective}
+use mathlib.Core.Option.{Option, none, some}
 use mathlib.Core.Path.{_≡_, refl, sym, ap, _∙_}
 use native.Mathlib.Omega.{arith}
 use lib.ListN.{length, take, drop, take-append-drop, drop-of-length-le}
 use Rattle.sheet.specs.declared.line.Line.{Line}
 use Rattle.sheet.specs.Line.{nameStart, lineLength, lineOf}
-use Rattle.sheet.specs.Sheet.{title, countColumns, headerLength, lineStart, lineCount, linePart, linesFrom, allGood}
-use Rattle.sheet.specs.Entries.{sheetRead, readBy, Entry, headerBytes, linesBytes, sheetBytes, entryGood, entriesGood, lineSaid, linesSaid}
+use Rattle.sheet.specs.Sheet.{title, countColumns, headerLength, lineStart, lineCount, linePart, linesFrom, linesBy, linesOf, allGood}
+use Rattle.sheet.specs.Entries.{Entry, headerBytes, linesBytes, sheetBytes, entryGood, entriesGood, lineSaid, linesSaid}
 use Rattle.sheet.proofs.Laws.Exact.Lines.{number-exact, column-fits, line-exact, line-name-good, line-name-size}
 use Rattle.sheet.proofs.Laws.Reading.Header.{Formed, formed, line-ends}
 use Rattle.sheet.proofs.Laws.Numbers.{line-start-is}
@@ -96,44 +96,33 @@ lines-exact s k (suc n) whole g =
         }
 
 -- A sheet whose header and lines are all good.
-module _ (s : List ℕ) (lines : List (Option Line)) (e : sheetRead s ≡ some lines) (g : allGood lines ≡ true) where
+module _ (s : List ℕ) (n : ℕ) (lines : List (Option Line)) (header : lineCount s ≡ some n) (e : linesOf s ≡ lines) (g : allGood lines ≡ true) where
   -- Its header counts its entries.
-  record Counted : Type 0 where
-    n : ℕ
-    header : lineCount s ≡ some n
-    entries : Entries s 0 n lines (entriesOf s lines)
-
-  counted : Counted
-  unfolding sheetRead readBy
-  counted = go (lineCount s) refl
-    where
-      go : (o : Option ℕ) → lineCount s ≡ o → Counted
-      go none c = absurd (Option·none-ne-some lines (rw c at e))
-      go (some n) c =
-          let same : lines ≡ linesFrom s 0 n = sym (Option·some-injective _ _ (rw c at e)) in
-          let whole : length s ≡ lineStart (0 + n) = omega (arith, formed s n c .whole, line-start-is n, line-start-is (0 + n)) in
-          record { n = n; header = c; entries = rw same (lines-exact s 0 n whole (rw same at g)) }
+  counted : Entries s 0 n lines (entriesOf s lines)
+  unfolding linesOf linesBy
+  counted =
+      let same : lines ≡ linesFrom s 0 n = sym (rw header at e) in
+      let whole : length s ≡ lineStart (0 + n) = omega (arith, formed s n header .whole, line-start-is n, line-start-is (0 + n)) in
+      rw same (lines-exact s 0 n whole (rw same at g))
 
   -- It is the sheet written from the entries that its lines say.
   pub sheet-exact : s ≡ sheetBytes (entriesOf s lines)
   unfolding lineStart sheetBytes
   sheet-exact =
-      let c = counted in
       let start : lineStart 0 ≡ headerLength = omega arith in
-      rw (c .entries .count, ← c .entries .bytes, start) (header-exact s (c .n) (c .header))
+      rw (counted .count, ← counted .bytes, start) (header-exact s n header)
 
   -- These are good, are no more than a header can count, and say those lines.
   pub entries-exact : (entriesGood (entriesOf s lines) ≡ true) × (length (entriesOf s lines) < 10 ^ countColumns) × (linesSaid (entriesOf s lines) ≡ lines)
   unfolding headerLength
   entries-exact =
-      let c = counted in
-      let f = formed s (c .n) (c .header) in
+      let f = formed s n header in
       let size : length (take countColumns (drop (length title) s)) ≡ countColumns =
-      part-length s (length title) countColumns (omega (arith, header-room s (c .n) f)) in
-      let few : c .n < 10 ^ countColumns = rw size at (column-fits (take countColumns (drop (length title) s)) (c .n) (f .count)) in
-      (c .entries .good, rw (c .entries .count) few, c .entries .same)
+      part-length s (length title) countColumns (omega (arith, header-room s n f)) in
+      let few : n < 10 ^ countColumns = rw size at (column-fits (take countColumns (drop (length title) s)) n (f .count)) in
+      (counted .good, rw (counted .count) few, counted .same)
 
 -- So two such sheets that say the same entries are the same bytes.
-pub same-sheet : (s t : List ℕ) (lines : List (Option Line)) → sheetRead s ≡ some lines → sheetRead t ≡ some lines → allGood lines ≡ true
-    → entriesOf s lines ≡ entriesOf t lines → s ≡ t
-same-sheet s t lines e f g same = sheet-exact s lines e g ∙ ap sheetBytes same ∙ sym (sheet-exact t lines f g)
+pub same-sheet : (s t : List ℕ) (n : ℕ) (lines : List (Option Line)) → lineCount s ≡ some n → linesOf s ≡ lines → lineCount t ≡ some n → linesOf t ≡ lines
+    → allGood lines ≡ true → entriesOf s lines ≡ entriesOf t lines → s ≡ t
+same-sheet s t n lines c e d f g same = sheet-exact s n lines c e g ∙ ap sheetBytes same ∙ sym (sheet-exact t n lines d f g)

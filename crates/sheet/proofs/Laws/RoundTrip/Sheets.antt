@@ -3,7 +3,7 @@ use Prim.Native.Nat.{ℕ, suc, _+_, _*_, _^_, _<_}
 use mathlib.Core.Bool.{Bool, true, false, _&&_, and-eq-true-iff}
 use mathlib.Core.List.{List, [], _∷_, _++_, append-assoc}
 use mathlib.Core.Option.{some}
-use mathlib.Core.Path.{_≡_, refl, _∙_, ap}
+use mathlib.Core.Path.{_≡_, refl, _∙_}
 use native.Mathlib.Omega.{arith}
 use lib.Dec.{eqb}
 use lib.ListN.{length, take, drop, getD, length-append}
@@ -11,9 +11,9 @@ use lib.Seq.{getD-at, drop-append-add}
 use Rattle.colour.specs.Colour.{isTag, codesFit}
 use Rattle.sheet.specs.Column.{newline, columnNumber, columnOf}
 use Rattle.sheet.specs.Line.{nameStart, lineLength, nameGood, lineOf, lineBytes}
-use Rattle.sheet.specs.Sheet.{title, sameBytes, countColumns, headerLength, lineStart, lineCount, linePart, linesFrom, linesBy}
+use Rattle.sheet.specs.Sheet.{title, sameBytes, countColumns, headerLength, lineStart, lineCount, linePart, linesFrom, linesBy, linesOf}
 use Rattle.sheet.specs.Sheet.{emptyPart, bytesOf, allGood, namePartFrom, namePart}
-use Rattle.sheet.specs.Entries.{sheetRead, readBy, Entry, entriesGood, entryGood, headerBytes, lineSaid, linesBytes, linesSaid, nameFor, sheetBytes}
+use Rattle.sheet.specs.Entries.{Entry, entriesGood, entryGood, headerBytes, lineSaid, linesBytes, linesSaid, nameFor, sheetBytes}
 use Rattle.sheet.proofs.Laws.RoundTrip.Columns.{part-at, column-at}
 use Rattle.sheet.proofs.Laws.Reading.Header.{counted}
 use Rattle.sheet.proofs.Laws.Reading.Lookup.{whereGood, looked-up}
@@ -128,11 +128,11 @@ said-good (e ∷ rest) = said-good rest
 
 -- A sheet written from good entries reads back: the count is their number, and each line says its entry.
 pub sheet-reads : (es : List Entry) → entriesGood es ≡ true → length es < 10 ^ countColumns
-    → (lineCount (sheetBytes es) ≡ some (length es)) × (sheetRead (sheetBytes es) ≡ some (linesSaid es))
-unfolding sheetBytes sheetRead readBy
+    → (lineCount (sheetBytes es) ≡ some (length es)) × (linesOf (sheetBytes es) ≡ linesSaid es)
+unfolding sheetBytes linesOf linesBy
 sheet-reads es g few =
     let count = count-reads es g few in
-    (count, rw count (ap some (lines-read (headerBytes (length es)) 0 es (header-length (length es)) g)))
+    (count, rw count (lines-read (headerBytes (length es)) 0 es (header-length (length es)) g))
 
 -- The lookup in such a sheet hands back the name of the first entry with the tag.
 pub sheet-name : (es : List Entry) (tag : ℕ) → entriesGood es ≡ true → length es < 10 ^ countColumns

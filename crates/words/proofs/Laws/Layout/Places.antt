@@ -11,7 +11,7 @@ use lib.ListN.{length, getD}
 use Rattle.colour.specs.Colour.{Red, Green, Blue, colourBy}
 use Rattle.colour.specs.Octant.{bitWeight}
 use Rattle.colour.proofs.Laws.Table.{valuesFrom, rule}
-use Rattle.model.specs.Layout.{SampleField, Tag, Code, Next, OctantField, First, Last, Count, Child, current, sampleHeader, sampleWidth, octantHeader, octantWidth, sampleRows, octantRows}
+use Rattle.model.specs.Layout.{SampleField, Tag, Code, Next, OctantField, First, Last, Count, Child, current, sampleHeader, sampleWidth, octantWidth, sampleRows, octantRows}
 use Rattle.model.proofs.Tables.Numbers.{current-numbers}
 use Rattle.model.proofs.Tables.Size.{rows-within}
 use Rattle.words.specs.Rows.{settingId, sampleId, octantId, place, sampleStart, sampleAt, sampleField, settingIn, settingsIn, octantStart, octantAt, octantField}
@@ -22,12 +22,12 @@ unfolding sampleStart sampleHeader sampleWidth current
 sample-start i = refl
 
 pub octant-start : (i : ℕ) → octantStart current i ≡ 1 + 11 * i
-unfolding octantStart octantHeader octantWidth current
+unfolding octantStart octantWidth current
 octant-start i = refl
 
 -- The octant rows stand after the count.
 pub after-count : (n : ℕ) → octantStart current n ≡ suc (octantWidth current * n)
-unfolding octantStart octantHeader
+unfolding octantStart
 after-count n = omega arith
 
 pub octants-first : octantStart current 0 ≡ 1

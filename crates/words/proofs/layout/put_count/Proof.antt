@@ -2,7 +2,6 @@
 use mathlib.Core.List.{[], _∷_}
 use borrow.Author.Needs.{needs}
 use lib.Seq.{sets-eq}
-use Rattle.model.specs.Layout.{octantHeader}
 use Rattle.words.proofs.layout.put_count.Statement.{statement}
 use Rattle.words.proofs.layout.put_count.Tie as tie
 
@@ -13,7 +12,6 @@ same-length : tie.Need-same-length
 same-length c = search needs
 
 returns : tie.Need-returns
-unfolding octantHeader
 returns c = sets-eq (c .args .count ∷ []) (c .args .octants .now) 0 (c .pre)
 
 pub put-count-spec : {M : Type 1} → statement M
