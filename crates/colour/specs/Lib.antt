@@ -6,6 +6,7 @@ pub mod Panel
 pub mod Region
 pub mod Mask
 pub mod Steps
+pub mod Nearby
 pub mod Question
 pub mod Refusal
 pub mod Query

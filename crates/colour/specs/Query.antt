@@ -12,7 +12,7 @@ use Rattle.colour.specs.declared.panel.Wanted.{Wanted}
 use Rattle.colour.specs.declared.panel.Wanted.TheVariants as W
 use Rattle.colour.specs.declared.panel.Asked.{Asked}
 use Rattle.colour.specs.declared.panel.Asked.TheVariants as A
-use Rattle.colour.specs.Colour.{code_in, each, probe}
+use Rattle.colour.specs.Colour.{code_in, each}
 use Rattle.colour.specs.Panel.{panel_good, radius_good, codes_of, code_of}
 use Rattle.colour.specs.Question.{Question, asks}
 use Rattle.colour.specs.Refusal.{refusal_number}
@@ -38,9 +38,9 @@ query_questions q = asks 9 (query_good q) ∷ []
 
 -- What a query wants, in codes.
 unfoldable pub in_codes : Query → Wanted
-in_codes (Q.Ball c r) = W.Listed (R.Ball (probe (codes_of c)) (code_of r))
+in_codes (Q.Ball c r) = W.Listed (R.Ball (codes_of c) (code_of r))
 in_codes (Q.Box lo hi) = W.Listed (R.Box (codes_of lo) (codes_of hi))
-in_codes (Q.Nearest c r) = W.Nearest (probe (codes_of c)) (code_of r)
+in_codes (Q.Nearest c r) = W.Nearest (codes_of c) (code_of r)
 
 -- A query taken apart.
 unfoldable pub asked_of : Query → Asked

@@ -1,8 +1,8 @@
 // The squared distance of two colours, in 64 bits: three squares of codes do not fit 32.
 ghost use Rattle.std.specs.Prelude.{◌≡◌, ◌+◌, ◌*◌, ◌≤◌};
-ghost use Rattle.colour.specs.Colour.{apart, distance, greatest_distance, InRange, Fine};
+ghost use Rattle.colour.specs.Colour.{apart, distance, greatest_distance, InRange};
 
-use crate::{Colour, Probe};
+use crate::Colour;
 
 // The difference of two codes.
 pub fn difference(x: u32, y: u32) -> u32
@@ -30,24 +30,15 @@ pub fn squares(red: u32, green: u32, blue: u32) -> u64
     square(red) + square(green) + square(blue)
 }
 
-// The square of the difference of two codes, with no branch.
-fn square_between(x: u32, y: u32) -> u64
-    requires { (x ≤ 65535) × (y ≤ 65535) }
-    ensures is { result ≡ apart x y * apart x y }
-    ensures bounded { result ≤ 4294836225 }
-{
-    let a = x as u64;
-    let b = y as u64;
-    square(x) + square(y) - 2 * (a * b)
-}
-
-// d² from a probe to a colour.
-pub fn squared(p: Probe, x: Colour) -> u64
-    requires { (Fine p) × (InRange x) }
-    ensures is { result ≡ distance p x }
+// d² of two colours.
+pub fn squared(a: Colour, b: Colour) -> u64
+    requires { (InRange a) × (InRange b) }
+    ensures is { result ≡ distance a b }
     ensures bounded { result ≤ greatest_distance }
 {
-    square_between(p.centre.red, x.red)
-        + square_between(p.centre.green, x.green)
-        + square_between(p.centre.blue, x.blue)
+    squares(
+        difference(a.red, b.red),
+        difference(a.green, b.green),
+        difference(a.blue, b.blue),
+    )
 }

@@ -3,6 +3,7 @@
 pub mod distance;
 pub mod mask;
 pub mod morton;
+pub mod nearby;
 pub mod octant;
 pub mod overlap;
 pub mod panel;
@@ -48,16 +49,10 @@ pub enum Query {
     Nearest(PanelColour, f32),
 }
 
-// What distances are measured from: a centre.
-#[derive(Drop)]
-pub struct Probe {
-    pub centre: Colour,
-}
-
-// The colours that a ball or a box asks for, in codes: those within a radius of a probe, or from a low colour to a high one.
+// The colours that a ball or a box asks for, in codes.
 #[derive(Drop)]
 pub enum Region {
-    Ball(Probe, u32),
+    Ball(Colour, u32),
     Box(Colour, Colour),
 }
 

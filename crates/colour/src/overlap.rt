@@ -1,14 +1,14 @@
 // How a region lies to a colour and to an octant. A channel's gap is worked out from the octant's least code and side, so the
 // closest and the farthest colour are never built.
 ghost use Rattle.std.specs.Prelude.{◌≡◌, ◌&&◌, suc, ◌+◌, ◌<◌, ◌≤◌, leb, ltb};
-ghost use Rattle.colour.specs.Colour.{apart, distance, greatest_distance, InRange, Fine};
+ghost use Rattle.colour.specs.Colour.{apart, distance, greatest_distance, InRange};
 ghost use Rattle.colour.specs.Octant.{last_code, side_at, children, Within};
 ghost use Rattle.colour.specs.Region.{closest_code, farthest_code, closest, farthest, holds, overlaps, inside, Fair};
 ghost use Rattle.colour.specs.Mask.{bit_if, mask_of, overlap_mask};
 ghost use Rattle.colour.specs.Steps.{closest_square, noes, missed, halves_of, of_channel, child_below, Small};
 
 use crate::distance::{difference, square, squared, squares};
-use crate::{Colour, Cube, Probe, Region};
+use crate::{Colour, Cube, Region};
 
 // How far x is from the closest code of low .. low + side - 1.
 fn closest_gap(x: u32, low: u32, side: u32) -> u32
@@ -37,33 +37,33 @@ fn farthest_gap(x: u32, low: u32, side: u32) -> u32
     if down <= up { up } else { down }
 }
 
-// d² from a probe to an octant's closest colour.
-pub fn closest_distance(p: Probe, cube: Cube) -> u64
-    requires { (Fine p) × (Within cube) }
-    ensures is { result ≡ distance p (closest p.centre cube.side cube.low) }
+// d² from a colour to an octant's closest colour.
+pub fn closest_distance(c: Colour, cube: Cube) -> u64
+    requires { (InRange c) × (Within cube) }
+    ensures is { result ≡ distance c (closest c cube.side cube.low) }
     ensures bounded { result ≤ greatest_distance }
 {
     let low = cube.low;
     let s = cube.side;
     squares(
-        closest_gap(p.centre.red, low.red, s),
-        closest_gap(p.centre.green, low.green, s),
-        closest_gap(p.centre.blue, low.blue, s),
+        closest_gap(c.red, low.red, s),
+        closest_gap(c.green, low.green, s),
+        closest_gap(c.blue, low.blue, s),
     )
 }
 
-// d² from a probe to an octant's farthest colour.
-pub fn farthest_distance(p: Probe, cube: Cube) -> u64
-    requires { (Fine p) × (Within cube) }
-    ensures is { result ≡ distance p (farthest p.centre cube.side cube.low) }
+// d² from a colour to an octant's farthest colour.
+pub fn farthest_distance(c: Colour, cube: Cube) -> u64
+    requires { (InRange c) × (Within cube) }
+    ensures is { result ≡ distance c (farthest c cube.side cube.low) }
     ensures bounded { result ≤ greatest_distance }
 {
     let low = cube.low;
     let s = cube.side;
     squares(
-        farthest_gap(p.centre.red, low.red, s),
-        farthest_gap(p.centre.green, low.green, s),
-        farthest_gap(p.centre.blue, low.blue, s),
+        farthest_gap(c.red, low.red, s),
+        farthest_gap(c.green, low.green, s),
+        farthest_gap(c.blue, low.blue, s),
     )
 }
 
@@ -126,7 +126,7 @@ pub fn holds(region: Region, c: Colour) -> bool
     ensures { result ≡ holds region c }
 {
     match region {
-        Region::Ball(p, radius) => squared(p, c) < square(radius),
+        Region::Ball(centre, radius) => squared(centre, c) < square(radius),
         Region::Box(low, high) => box_holds(low, high, c),
     }
 }
@@ -137,20 +137,20 @@ pub fn overlaps(region: Region, cube: Cube) -> bool
     ensures { result ≡ overlaps region cube.side cube.low }
 {
     match region {
-        Region::Ball(p, radius) => closest_distance(p, cube) < square(radius),
+        Region::Ball(centre, radius) => closest_distance(centre, cube) < square(radius),
         Region::Box(low, high) => box_overlaps(low, high, cube),
     }
 }
 
 // Whether every colour of an octant is in a ball. An octant's farthest colour is at least half a side away, so most octants need no distance.
-fn ball_inside(p: Probe, radius: u32, cube: Cube) -> bool
-    requires { (Fine p) × (Within cube) }
-    ensures { result ≡ inside (Region.Ball p radius) cube.side cube.low }
+fn ball_inside(centre: Colour, radius: u32, cube: Cube) -> bool
+    requires { (InRange centre) × (Within cube) }
+    ensures { result ≡ inside (Region.Ball centre radius) cube.side cube.low }
 {
     if radius <= cube.side / 2 {
         return false;
     }
-    farthest_distance(p, cube) < square(radius)
+    farthest_distance(centre, cube) < square(radius)
 }
 
 // Whether every colour of an octant is in a region.
@@ -159,7 +159,7 @@ pub fn inside(region: Region, cube: Cube) -> bool
     ensures { result ≡ inside region cube.side cube.low }
 {
     match region {
-        Region::Ball(p, radius) => ball_inside(p, radius, cube),
+        Region::Ball(centre, radius) => ball_inside(centre, radius, cube),
         Region::Box(low, high) => box_inside(low, high, cube),
     }
 }
@@ -171,7 +171,7 @@ pub struct Halves {
     pub upper: u64,
 }
 
-fn closest_squares(x: u32, low: u32, half: u32) -> Halves
+pub fn closest_squares(x: u32, low: u32, half: u32) -> Halves
     requires { (x ≤ 65535) × ((1 ≤ half) × (low + (half + half) ≤ 65536)) }
     ensures is { result ≡ halves_of (closest_square x) half low }
     ensures small { Small result }
@@ -229,18 +229,18 @@ fn mask(red: Halves, green: Halves, blue: Halves, limit: u64) -> u32
         + bit(red.upper, green.upper, blue.upper, limit, 128)
 }
 
-fn ball_overlapping(p: Probe, radius: u32, cube: Cube, half: u32) -> u32
-    requires fine { (Fine p) × (Within cube) }
+fn ball_overlapping(centre: Colour, radius: u32, cube: Cube, half: u32) -> u32
+    requires in_range { (InRange centre) × (Within cube) }
     requires depth_bound { cube.depth < 16 }
     requires half_value { half ≡ side_at (suc cube.depth) }
-    ensures is { result ≡ overlap_mask (Region.Ball p radius) half cube.low }
+    ensures is { result ≡ overlap_mask (Region.Ball centre radius) half cube.low }
     ensures bounded { result < 256 }
 {
     let low = cube.low;
     mask(
-        closest_squares(p.centre.red, low.red, half),
-        closest_squares(p.centre.green, low.green, half),
-        closest_squares(p.centre.blue, low.blue, half),
+        closest_squares(centre.red, low.red, half),
+        closest_squares(centre.green, low.green, half),
+        closest_squares(centre.blue, low.blue, half),
         square(radius),
     )
 }
@@ -270,7 +270,7 @@ pub fn overlapping(region: Region, cube: Cube, half: u32) -> u32
     ensures bounded { result < 256 }
 {
     match region {
-        Region::Ball(p, radius) => ball_overlapping(p, radius, cube, half),
+        Region::Ball(centre, radius) => ball_overlapping(centre, radius, cube, half),
         Region::Box(low, high) => box_overlapping(low, high, cube, half),
     }
 }

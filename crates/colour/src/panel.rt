@@ -7,7 +7,7 @@ ghost use Rattle.colour.specs.Query.{ordered, query_questions, sphere_if, asked_
 ghost use Rattle.colour.specs.Question.{first_no};
 
 use crate::refusal::Refusal;
-use crate::{Colour, PanelColour, Probe, Query, Region};
+use crate::{Colour, PanelColour, Query, Region};
 
 // A float's code, or that it is out of range.
 #[derive(Drop)]
@@ -32,16 +32,16 @@ pub enum Floats {
 
 // A centre and a radius in codes, or that one is out of range.
 #[derive(Drop)]
-pub enum Sphere {
+enum Sphere {
     Is(Colour, u32),
     OutOfRange,
 }
 
-// What a query wants, in codes: what lies in a region, or what is nearest to a probe within a radius.
+// What a query wants, in codes: what lies in a region, or what is nearest to a centre within a radius.
 #[derive(Drop)]
 pub enum Wanted {
     Listed(Region),
-    Nearest(Probe, u32),
+    Nearest(Colour, u32),
 }
 
 // What a query asks for, or the refusal of question 9.
@@ -161,7 +161,7 @@ pub fn floats_of(c: Colour) -> Floats
 }
 
 // A centre and a radius in codes.
-pub fn sphere_of(centre: PanelColour, radius: f32) -> Sphere
+fn sphere_of(centre: PanelColour, radius: f32) -> Sphere
     ensures { result ≡ sphere_if (panel_good centre && radius_good radius) centre radius }
 {
     let Codes::Are(c) = codes_of(centre) else {
@@ -196,12 +196,12 @@ pub fn asked_of(q: Query) -> Asked
 {
     match q {
         Query::Ball(centre, radius) => match sphere_of(centre, radius) {
-            Sphere::Is(c, r) => Asked::For(Wanted::Listed(Region::Ball(Probe { centre: c }, r))),
+            Sphere::Is(c, r) => Asked::For(Wanted::Listed(Region::Ball(c, r))),
             Sphere::OutOfRange => Asked::Refused(Refusal::OutOfRange),
         },
         Query::Box(low, high) => box_asked(low, high),
         Query::Nearest(centre, radius) => match sphere_of(centre, radius) {
-            Sphere::Is(c, r) => Asked::For(Wanted::Nearest(Probe { centre: c }, r)),
+            Sphere::Is(c, r) => Asked::For(Wanted::Nearest(c, r)),
             Sphere::OutOfRange => Asked::Refused(Refusal::OutOfRange),
         },
     }

@@ -9,10 +9,9 @@ use Rattle.colour.specs.Colour.{black, wrapped}
 use Rattle.colour.specs.Octant.{depths, children, child_low}
 use Rattle.colour.specs.Region.{holds, overlaps, inside}
 use Rattle.model.specs.Lists.{keep}
-use Rattle.model.specs.Layout.{Bucket, Tag, Count, current}
+use Rattle.model.specs.Layout.{Bucket, Tag, Count, Child, current}
 use Rattle.words.specs.Rows.{setting_in, sample_field, sample_in, octant_field, octant_limit}
 use Rattle.traversal.specs.Own.{own_rows, ends_at}
-use Rattle.traversal.specs.Children.{child_at}
 
 -- What a pass has counted: octants entered, samples measured, and all samples visited, measured or taken whole. `next` is the least octant row
 -- that may still be entered.
@@ -75,8 +74,8 @@ visit_each f (suc n) t = and_then (visit_each f n t) (f n)
 -- Child k, of side s, of the octant in a row at low: it is visited where it is entered.
 unfoldable pub child_visit : List ℕ → Region → (ℕ → Colour → Tally → Visit) → ℕ → ℕ → Colour → ℕ → Tally → Visit
 child_visit os R below s row low k t =
-    elim (enters os R s (child_low s k low) (child_at os row k) t) [
-      | true ↦ below (child_at os row k) (child_low s k low) t
+    elim (enters os R s (child_low s k low) (octant_field current os row (Child k)) t) [
+      | true ↦ below (octant_field current os row (Child k)) (child_low s k low) t
       | false ↦ nothing t
     ]
 

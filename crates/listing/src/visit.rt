@@ -14,8 +14,8 @@ use colour::mask::{first, without};
 use colour::octant::{child, root, side};
 use colour::overlap::{inside, overlapping, overlaps};
 use colour::{Cube, Region};
-use traversal::octant::{child_at, ends, most};
-use words::layout::{octant_first, octant_limit};
+use traversal::octant::{ends, most};
+use words::layout::{octant_child, octant_first, octant_limit};
 
 // An entered octant's own samples.
 fn own_samples(
@@ -78,7 +78,7 @@ fn visit(
     while left != 0 {
         let k = first(left);
         left = without(left, k);
-        let next = child_at(octants, row, k);
+        let next = octant_child(octants, row, k);
         if may_enter(tally, next, limit) {
             visit(
                 samples,

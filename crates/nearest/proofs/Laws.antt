@@ -1,7 +1,8 @@
--- What the proofs of nearest cite.
-pub mod Closer
-pub mod Words
-pub mod Measuring
-pub mod Starting
-pub mod Least
-pub mod Found
+-- What the proofs of the functions cite.
+pub mod Labels
+pub mod Folds
+pub mod Turns
+pub mod Bounds
+pub mod Entered
+pub mod Steps
+pub mod Sound

@@ -1,121 +1,116 @@
-// The search: it recurses through octants, the depth left falling, and takes the closest child first. Its siblings are looked at once it is done: most are
-// then too far.
-ghost use Rattle.std.specs.Prelude.{◌≤◌, ◌<◌, ◌≡◌, length};
-ghost use Rattle.colour.specs.Colour.{Fine};
+// The search: it recurses through octants, the depth left falling, and takes the closest child first.
+ghost use Rattle.std.specs.Prelude.{◌-◌, ◌≤◌, ◌<◌, ◌&&◌, ◌≡◌, ltb, length};
+ghost use Rattle.colour.specs.Colour.{InRange};
+ghost use Rattle.colour.specs.Octant.{Within};
+ghost use Rattle.colour.specs.Nearby.{closest_by, SmallGaps};
 ghost use Rattle.model.specs.Layout.{current, sample_header, octant_header};
 ghost use Rattle.words.specs.Rows.{octant_limit};
-ghost use Rattle.traversal.specs.Spot.{Stood, Forked, search_at, siblings_at, split_at};
-ghost use Rattle.nearest.specs.Best.{bests, best_of, best_found};
-ghost use Rattle.nearest.specs.Steps.{words_after, search_in, Ready};
+ghost use Rattle.nearest.specs.Best.{closer};
+ghost use Rattle.nearest.specs.Search.{search_entering, search_of, no_search, search_all};
+ghost use Rattle.nearest.specs.Steps.{Ready};
 
-use crate::best::{Best, distance, enter, reaches, row as row_of, start};
-use crate::leaf::own;
-use colour::Probe;
+use crate::best::{Best, closer};
+use crate::search::{Search, own};
 use colour::distance::square;
-use colour::mask::{first as first_of, without};
-use traversal::nearby::{far_of, sum_by, turns};
-use traversal::octant::{child_at, ends};
-use traversal::spot::{Fork, Spot, closest_spot, fork_of, root_spot, sibling_spot};
-use words::layout::{octant_limit, sample_rows, tag as tag_of};
+use colour::nearby::{Gaps, closest_by, closest_child, gaps_of};
+use colour::octant::{child, root, side};
+use colour::{Colour, Cube};
+use traversal::octant::ends;
+use words::layout::{octant_child, octant_limit};
 
-// The siblings of the closest child, in turn: those that are still close enough.
-#[cycle(siblings_split_visit)]
-fn siblings(
+// How many children an octant of side over 1 has.
+const CHILDREN: u32 = 8;
+
+// One octant more is entered.
+fn enter(search: Search) -> Search
+    requires { search.entered < 4294967295 }
+    ensures { result ≡ search_entering search }
+{
+    let best = search.best;
+    Search {
+        best,
+        entered: search.entered + 1,
+        visited: search.visited,
+    }
+}
+
+// Whether child k, in a row, is entered: it is there, another octant may be entered, and it can hold something that comes before the best. How far it is
+// is worked out last: most octants have few children.
+fn reaches(search: Search, row: u32, limit: u32, gaps: Gaps, k: u32) -> bool
+    requires { SmallGaps gaps }
+    ensures { result
+        ≡ ((ltb 0 row && ltb row limit) && (ltb search.entered limit && closer search.best (closest_by gaps k) row)) }
+{
+    if ((0 < row) & (row < limit)) & (search.entered < limit) {
+        let best = search.best;
+        return closer(best, closest_by(gaps, k), row);
+    }
+    false
+}
+
+// Enters the octant in a row. Turn 0 takes the child that the centre lies in or is closest to; each other turn one that differs from it in the
+// channels of the turn's bits.
+fn visit(
     samples: &[u32],
     octants: &[u32],
-    p: Probe,
+    centre: Colour,
     row: u32,
-    spot: Spot,
-    fork: Fork,
-    search: &mut [u64; 5],
-)
-    requires forked { (Forked p spot fork) × (row < octant_limit current octants.now) }
-    requires ready { Ready samples.now octants.now search.old }
-    ensures { search.new
-        ≡ words_after (siblings_at (bests samples.now p) samples.now octants.now p row spot)
-        search.old }
+    cube: Cube,
+    from: Search,
+) -> Search
+    requires in_range { InRange centre }
+    requires within { Within cube }
+    requires ready { Ready samples.now octants.now from }
+    requires row_bound { (row < octant_limit current octants.now) × (from.entered < octant_limit current octants.now) }
+    ensures { result ≡ search_of samples.now octants.now centre (16 - cube.depth) row cube.low from }
 {
-    let far = far_of(p, spot.cube, fork.half);
+    let mut search = enter(from);
+    if ends(samples, octants, false, cube.depth, row) {
+        return own(samples, octants, centre, row, search);
+    }
     let limit = octant_limit(octants);
-    let mut left = turns(distance(search), spot.near, far);
-    while left != 0 {
-        let turn = first_of(left);
-        left = without(left, turn);
-        let next = child_at(octants, row, fork.first ^ turn);
-        let to = sibling_spot(p, spot, fork, far, turn);
-        if reaches(search, next, limit, sum_by(to.near)) {
-            visit(samples, octants, p, next, to, search);
+    let half = side(cube.depth + 1);
+    let gaps = gaps_of(centre, cube, half);
+    let first = closest_child(centre, cube, half);
+    let mut turn: u32 = 0;
+    while turn < CHILDREN {
+        let k = first ^ turn;
+        turn += 1;
+        let next = octant_child(octants, row, k);
+        if reaches(search, next, limit, gaps, k) {
+            search = visit(samples, octants, centre, next, child(cube, half, k), search);
         }
     }
+    search
 }
 
-// A split octant: the closest child, and then its siblings. (In a function of its own: in `visit`, what is handed on would be copied in pieces.)
-#[cycle(siblings_split_visit)]
-fn split(samples: &[u32], octants: &[u32], p: Probe, row: u32, spot: Spot, search: &mut [u64; 5])
-    requires stood { (Stood p spot) × (spot.cube.depth < 16) }
-    requires row_bound { row < octant_limit current octants.now }
-    requires ready { Ready samples.now octants.now search.old }
-    ensures { search.new
-        ≡ words_after (split_at (bests samples.now p) samples.now octants.now p row spot)
-        search.old }
+// Before a search.
+fn start(radius: u32) -> Search
+    ensures { result ≡ no_search radius }
 {
-    let fork = fork_of(p, spot.cube);
-    let next = child_at(octants, row, fork.first);
-    let to = closest_spot(p, spot, fork);
-    if reaches(search, next, octant_limit(octants), sum_by(to.near)) {
-        visit(samples, octants, p, next, to, search);
-    }
-    siblings(samples, octants, p, row, spot, fork, search);
-}
-
-// Enters the octant in a row: its own samples are measured, or its children are searched.
-#[cycle(siblings_split_visit)]
-fn visit(samples: &[u32], octants: &[u32], p: Probe, row: u32, spot: Spot, search: &mut [u64; 5])
-    requires stood { (Stood p spot) × (row < octant_limit current octants.now) }
-    requires ready { Ready samples.now octants.now search.old }
-    requires search_bound { (search_in search.old).entered < octant_limit current octants.now }
-    ensures { search.new
-        ≡ words_after (search_at (bests samples.now p) samples.now octants.now p row spot)
-        search.old }
-{
-    enter(search);
-    if ends(samples, octants, false, spot.cube.depth, row) {
-        own(samples, octants, p, row, search);
-        return;
-    }
-    split(samples, octants, p, row, spot, search);
-}
-
-// What is found, with its tag. The row is tested before it is read.
-fn best_of(samples: &[u32], search: &[u64; 5]) -> Best
-    ensures { result ≡ best_of samples.now (search_in search.now).kept }
-{
-    let found = row_of(search);
-    let far = distance(search);
-    if found < (sample_rows(samples.len()) as u64) {
-        let row = found as usize;
-        return Best {
-            distance: far,
-            row: found as u32,
-            tag: tag_of(samples, row),
-        };
-    }
-    Best {
-        distance: far,
-        row: 0,
-        tag: 0,
+    Search {
+        best: Best {
+            distance: square(radius),
+            octant: 0,
+            tag: 0,
+        },
+        entered: 0,
+        visited: 0,
     }
 }
 
-// Nearest over codes: the root is entered if it is there.
-pub fn nearest(samples: &[u32], octants: &[u32], p: Probe, radius: u32) -> Best
-    requires fine { Fine p }
+// Nearest over codes: the root is entered where it is there.
+pub fn nearest(samples: &[u32], octants: &[u32], centre: Colour, radius: u32) -> Best
+    requires in_range { InRange centre }
     requires current_in_bounds { (sample_header current ≤ length samples.now) × (octant_header current ≤ length octants.now) }
-    ensures { result ≡ best_found samples.now octants.now p radius }
+    ensures { result ≡ (search_all samples.now octants.now centre radius).best }
 {
-    let mut search = start(square(radius));
-    if 0 < octant_limit(octants) {
-        visit(samples, octants, p, 0, root_spot(p), &mut search);
+    let none = start(radius);
+    if octant_limit(octants) == 0 {
+        let best = none.best;
+        return best;
     }
-    best_of(samples, &search)
+    let found = visit(samples, octants, centre, 0, root(), none);
+    let best = found.best;
+    best
 }

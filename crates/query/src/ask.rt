@@ -1,31 +1,17 @@
 // Ball, box and nearest, by the one entry that takes a query apart.
-ghost use Rattle.std.specs.Prelude.{true, false, List, ◌≡◌, ℕ, ◌*◌, ◌≤◌, length};
-ghost use Rattle.colour.specs.Colour.{Fine};
-ghost use Rattle.model.specs.Layout.{current, sample_header, octant_header};
+ghost use Rattle.std.specs.Prelude.{true, false, List, ◌≡◌, ℕ};
 ghost use Rattle.model.specs.Tables.{tables_lent};
 ghost use Rattle.model.specs.Meets.{lists};
-ghost use Rattle.nearest.specs.Best.{best_found, best_answer};
 ghost use Rattle.query.specs.Answers.{reply_answer, of_kind, Bounds, AskMeets};
 
 use crate::answers::{Reply, of_best, of_listed};
 use colour::distance::square;
-use colour::panel::{Asked, Sphere, Wanted, asked_of, sphere_of};
+use colour::panel::{Asked, Wanted, asked_of};
 use colour::refusal::Refusal;
-use colour::{PanelColour, Probe, Query};
+use colour::{PanelColour, Query};
 use listing::list::list;
 use nearest::visit::nearest as nearest_code;
 use words::layout::long_enough;
-
-// What is nearest to a probe within a radius, over codes.
-fn found(samples: &[u32], octants: &[u32], p: Probe, radius: u32) -> Reply
-    requires fine { Fine p }
-    requires current_in_bounds { (sample_header current ≤ length samples.now) × (octant_header current ≤ length octants.now) }
-    ensures is { (left : List ℕ) → reply_answer result left
-        ≡ best_answer (radius * radius) (best_found samples.now octants.now p radius) left }
-    ensures kind { of_kind false result ≡ true }
-{
-    of_best(nearest_code(samples, octants, p, radius), square(radius))
-}
 
 // The query entry: an exported call. Questions 1 and 9, and then the listing or the search. A nearest query leaves the listing as it is.
 pub fn ask(samples: &[u32], octants: &[u32], query: Query, listing: &mut [u32]) -> Reply
@@ -39,7 +25,10 @@ pub fn ask(samples: &[u32], octants: &[u32], query: Query, listing: &mut [u32]) 
     match asked_of(query) {
         Asked::For(wanted) => match wanted {
             Wanted::Listed(region) => of_listed(list(samples, octants, region, listing)),
-            Wanted::Nearest(p, radius) => found(samples, octants, p, radius),
+            Wanted::Nearest(centre, radius) => of_best(
+                nearest_code(samples, octants, centre, radius),
+                square(radius),
+            ),
         },
         Asked::Refused(refusal) => Reply::Refused(refusal),
     }
@@ -77,19 +66,13 @@ pub fn boxed(
     ask(samples, octants, Query::Box(low, high), listing)
 }
 
-// Nearest: an exported call. It uses no listing, so it promises its answer with any. It asks its questions itself: building a query
-// only to take it apart again costs a third of a search of few samples.
+// Nearest: an exported call. It uses no listing, so it promises its answer with any; the word that it lends the entry stays as it is.
 pub fn nearest(samples: &[u32], octants: &[u32], centre: PanelColour, radius: f32) -> Reply
     ensures meets { (listing : List ℕ) → AskMeets
         (Query.Nearest centre radius) listing (tables_lent samples octants) (reply_answer result listing) }
     ensures bounds { (listing : List ℕ) → Bounds listing (tables_lent samples octants) (reply_answer result listing) }
     ensures kind { of_kind false result ≡ true }
 {
-    if !long_enough(samples.len(), octants.len()) {
-        return Reply::Refused(Refusal::TooShort);
-    }
-    match sphere_of(centre, radius) {
-        Sphere::Is(c, r) => found(samples, octants, Probe { centre: c }, r),
-        Sphere::OutOfRange => Reply::Refused(Refusal::OutOfRange),
-    }
+    let mut word = [0u32; 1];
+    ask(samples, octants, Query::Nearest(centre, radius), &mut word)
 }

@@ -1,8 +1,2 @@
--- What every traversal of the tables reads of an octant, on any words, and the search for what is closest.
+-- What every traversal of the tables reads of an octant, on any words.
 pub mod Own
-pub mod Children
-pub mod Nearby
-pub mod Turns
-pub mod Search
-pub mod Steps
-pub mod Spot

@@ -1,4 +1,2 @@
-// What every traversal of the tables asks of an octant, and the octants that a search by path goes through. Nothing in the tables is trusted.
-pub mod nearby;
+// What every traversal of the tables asks of an octant. Nothing in the tables is trusted.
 pub mod octant;
-pub mod spot;

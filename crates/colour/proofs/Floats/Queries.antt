@@ -6,7 +6,6 @@ use native.Mathlib.Omega.{arith}
 use lib.Ieee.{Float}
 use Rattle.colour.specs.declared.Colour.{Colour}
 use Rattle.colour.specs.declared.PanelColour.{PanelColour}
-use Rattle.colour.specs.declared.Probe.{Probe}
 use Rattle.colour.specs.declared.Query.{Query}
 use Rattle.colour.specs.declared.Query.TheVariants as Q
 use Rattle.colour.specs.declared.Region.{Region}
@@ -20,7 +19,7 @@ use Rattle.colour.specs.declared.panel.Asked.{Asked}
 use Rattle.colour.specs.declared.panel.Asked.TheVariants as A
 use Rattle.colour.specs.declared.refusal.Refusal.{Refusal}
 use Rattle.colour.specs.declared.refusal.Refusal.TheVariants.{OutOfRange}
-use Rattle.colour.specs.Colour.{codes_fit, probe}
+use Rattle.colour.specs.Colour.{codes_fit}
 use Rattle.colour.specs.Panel.{panel_good, radius_good, codes_of, code_of, answer_if, codes_if}
 use Rattle.colour.specs.Question.{first_no}
 use Rattle.colour.specs.Query.{ordered, query_good, query_questions, in_codes, asked_of, asked_number, sphere_if}
@@ -119,18 +118,18 @@ module _ (low high : PanelColour) where
     box_no e = asked_no (Q.Box low high) (box_good ∙ e)
 
 -- What a query asks lies in range: codes up to 65,535, a radius below 131,072, a box in order.
-abbrev pub SphereFits : Probe → ℕ → Type 0
-SphereFits p n = (codes_fit p.centre ≡ true) × (n < 131072)
+abbrev pub SphereFits : Colour → ℕ → Type 0
+SphereFits k n = (codes_fit k ≡ true) × (n < 131072)
 
 abbrev pub RegionFits : Region → Type 0
-RegionFits (R.Ball p n) = SphereFits p n
+RegionFits (R.Ball k n) = SphereFits k n
 RegionFits (R.Box l h) = (codes_fit l ≡ true) × (codes_fit h ≡ true) × (ordered l h ≡ true)
 
 abbrev pub WantedFits : Wanted → Type 0
 WantedFits (W.Listed r) = RegionFits r
-WantedFits (W.Nearest p n) = SphereFits p n
+WantedFits (W.Nearest k n) = SphereFits k n
 
-sphere_fits : (p : PanelColour) (v : Float) → (panel_good p && radius_good v) ≡ true → SphereFits (probe (codes_of p)) (code_of v)
+sphere_fits : (p : PanelColour) (v : Float) → (panel_good p && radius_good v) ≡ true → SphereFits (codes_of p) (code_of v)
 unfolding radius_good
 sphere_fits p v e = (good_fit p ((and-eq-true_iff (panel_good p) (radius_good v)).0 e).0, code_below 2 v ((and-eq-true_iff (panel_good p) (radius_good v)).0 e).1)
 

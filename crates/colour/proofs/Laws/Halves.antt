@@ -6,7 +6,6 @@ use native.Mathlib.Nat.{zero-add}
 use native.Mathlib.Omega.{arith}
 use lib.Dec.{ltb}
 use Rattle.colour.specs.declared.Colour.{Colour}
-use Rattle.colour.specs.declared.Probe.{Probe}
 use Rattle.colour.specs.declared.Region.{Region}
 use Rattle.colour.specs.declared.Region.TheVariants.{Ball, Box}
 use Rattle.colour.specs.declared.overlap.Halves.{Halves}
@@ -35,15 +34,14 @@ each_noes f = go (f Red) (f Green) (f Blue)
     go false false false = refl
 
 -- d² to an octant's closest colour is what its channels add up to.
-pub closest_shares : (p : Probe) (s : ℕ) (low : Colour)
-    → distance p (closest p.centre s low) ≡ sum_of (λ h. closest_square (code_in h p.centre) s (code_in h low))
+pub closest_shares : (c : Colour) (s : ℕ) (low : Colour) → distance c (closest c s low) ≡ sum_of (λ h. closest_square (code_in h c) s (code_in h low))
 unfolding closest_square distance closest
-closest_shares p s low = sum_same _ _ (λ h. ap (λ (n : ℕ). apart (code_in h p.centre) n * apart (code_in h p.centre) n) (code_by _ h))
+closest_shares c s low = sum_same _ _ (λ h. ap (λ (n : ℕ). apart (code_in h c) n * apart (code_in h c) n) (code_by _ h))
 
 -- An octant overlaps a region exactly where its channels add up to less than the region's limit.
 pub overlaps_shares : (R : Region) (s : ℕ) (low : Colour) → overlaps R s low ≡ ltb (sum_of (λ h. share R h s (code_in h low))) (limit_of R)
 unfolding overlaps share limit_of missed
-overlaps_shares (Ball p r) s low = ap (λ (n : ℕ). ltb n (r * r)) (closest_shares p s low)
+overlaps_shares (Ball c r) s low = ap (λ (n : ℕ). ltb n (r * r)) (closest_shares c s low)
 overlaps_shares (Box a b) s low = each_noes _
 
 -- The half of a bit starts at low, or s above it.

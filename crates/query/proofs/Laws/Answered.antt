@@ -30,8 +30,10 @@ use Rattle.listing.specs.Answers.{counts_of, pass_answer}
 use Rattle.listing.proofs.Laws.Pass.Bounds.{pass_bounded}
 use Rattle.listing.proofs.Laws.Answers.Answered.{pass_listing, pass_fits, pass_short, tags_budget}
 use Rattle.nearest.specs.declared.best.Best.{Best}
-use Rattle.nearest.specs.Best.{best_answer, best_found}
-use Rattle.nearest.proofs.Laws.Found.{search_nearest, search_best_within}
+use Rattle.nearest.specs.Best.{best_answer}
+use Rattle.nearest.specs.Search.{search_all}
+use Rattle.nearest.proofs.Laws.Bounds.{search_all_within}
+use Rattle.nearest.proofs.Laws.Sound.Found.{search_nearest}
 use Rattle.query.specs.Answers.{raw_wanted, raw_answer, Bounds, AskMeets}
 use Rattle.query.proofs.Laws.Machine.{query_same, query_refused, query_wanted}
 
@@ -49,8 +51,8 @@ module _ (t : Tables) (l : List ℕ) where
         listed = n;
         measured = m;
         visited = λ R. (pass_bounded t.samples t.octants R).limits.visited;
-        searched = λ p r. (search_best_within t.samples t.octants p r).visited;
-        reached = λ p r. (search_best_within t.samples t.octants p r).entered;
+        searched = λ c r. (search_all_within t.samples t.octants c r).visited;
+        reached = λ c r. (search_all_within t.samples t.octants c r).entered;
         room = r;
       }
 
@@ -86,14 +88,14 @@ module _ (t : Tables) (l : List ℕ) where
   wanted_bounds : (w : Wanted) → Bounds l t (raw_wanted t w l)
   unfolding raw_wanted
   wanted_bounds (W.Listed R) = pass_bounds R
-  wanted_bounds (W.Nearest p r) = best_bounds (r * r) (best_found t.samples t.octants p r)
+  wanted_bounds (W.Nearest c r) = best_bounds (r * r) (search_all t.samples t.octants c r).best
 
   -- On sound tables whatever is wanted is answered as the machine answers.
   wanted_follows : (m : Machine) → Shows current m t → (w : Wanted)
       → raw_wanted t w l ≡ unless_refused (wanted_questions m.set w l) l (wanted_answer m.set w l)
   unfolding raw_wanted wanted_questions wanted_answer unless_refused first_no
   wanted_follows m shows (W.Listed R) = pass_listing t m shows R l
-  wanted_follows m shows (W.Nearest p r) = search_nearest t.samples t.octants m shows p r l
+  wanted_follows m shows (W.Nearest c r) = search_nearest t.samples t.octants m shows c r l
 
 -- What question 2 leaves of a query that question 9 accepts.
 module _ (q : Query) (l : List ℕ) (t : Tables) (good : query_good q ≡ true) where

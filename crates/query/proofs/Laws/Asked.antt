@@ -1,35 +1,35 @@
 -- From what the functions under a query say to its contract.
 use Prim.Native.Nat.{ℕ}
-use mathlib.Core.Bool.{Bool, true, false, ◌&&◌}
+use mathlib.Core.Bool.{Bool, true, false}
 use mathlib.Core.List.{List}
 use mathlib.Core.Path.{◌≡◌, refl, sym, ap, ◌∙◌, subst}
 use native.Mathlib.Omega.{arith}
+use lib.Dec.{ltb}
 use lib.Ieee.{Float}
 use Rattle.colour.specs.declared.Colour.{Colour}
 use Rattle.colour.specs.declared.PanelColour.{PanelColour}
-use Rattle.colour.specs.declared.Probe.{Probe}
 use Rattle.colour.specs.declared.Query.{Query}
 use Rattle.colour.specs.declared.Query.TheVariants as Q
 use Rattle.colour.specs.declared.Region.{Region}
 use Rattle.colour.specs.declared.Region.TheVariants as R
-use Rattle.colour.specs.declared.panel.Sphere.TheVariants as S
 use Rattle.colour.specs.declared.panel.Wanted.{Wanted}
 use Rattle.colour.specs.declared.panel.Wanted.TheVariants as W
 use Rattle.colour.specs.declared.panel.Asked.TheVariants as A
 use Rattle.colour.specs.declared.refusal.Refusal.{Refusal}
-use Rattle.colour.specs.declared.refusal.Refusal.TheVariants.{TooShort, OutOfRange}
-use Rattle.colour.specs.Colour.{probe, Fine}
-use Rattle.colour.specs.Panel.{panel_good, radius_good}
-use Rattle.colour.specs.Query.{sphere_if, query_good, in_codes, asked_of}
+use Rattle.colour.specs.declared.refusal.Refusal.TheVariants.{TooShort}
+use Rattle.colour.specs.Colour.{InRange}
+use Rattle.colour.specs.Query.{query_good, in_codes, asked_of}
 use Rattle.colour.specs.Refusal.{refusal_number}
 use Rattle.colour.specs.Region.{Fair}
 use Rattle.colour.proofs.Laws.Channels.{in_range}
-use Rattle.colour.proofs.Floats.Queries.{sphere_asked, sphere_not_asked, asked_told, asked_refused, RegionFits, WantedFits, wanted_fits}
+use Rattle.colour.proofs.Floats.Queries.{asked_told, asked_refused, RegionFits, WantedFits, wanted_fits}
 use Rattle.model.specs.Layout.{current}
 use Rattle.model.specs.Tables.{Tables}
 use Rattle.model.specs.Machine.{Answer, plain, nearest_answer, list_answer}
 use Rattle.model.specs.Sound.{long_enough}
 use Rattle.model.specs.Meets.{lists}
+use Rattle.nearest.specs.declared.best.Best.{Best}
+use Rattle.nearest.specs.Best.{best_answer}
 use Rattle.query.specs.declared.answers.Reply.{Reply}
 use Rattle.query.specs.declared.answers.Reply.TheVariants as Reply
 use Rattle.query.specs.Answers.{reply_answer, of_kind, raw_wanted, raw_answer, Bounds, AskMeets}
@@ -44,11 +44,11 @@ unfolding Fair
 region_fair q g e = fair g (asked_fits q (W.Listed g) e)
   where
     fair : (g : Region) → RegionFits g → Fair g
-    fair (R.Ball p r) h = record { centre = in_range p.centre h.0 }
+    fair (R.Ball c r) h = in_range c h.0
     fair (R.Box lo hi) h = tt
 
-pub probe_fine : (q : Query) (p : Probe) (r : ℕ) → asked_of q ≡ A.For (W.Nearest p r) → Fine p
-probe_fine q p r e = record { centre = in_range p.centre (asked_fits q (W.Nearest p r) e).0 }
+pub centre_fair : (q : Query) (c : Colour) (r : ℕ) → asked_of q ≡ A.For (W.Nearest c r) → InRange c
+centre_fair q c r e = in_range c (asked_fits q (W.Nearest c r) e).0
 
 -- The answer of each case is the named one.
 module _ (q : Query) (l : List ℕ) (t : Tables) where
@@ -79,7 +79,7 @@ good_lists (Q.Ball c r) g e = refl
 good_lists (Q.Box lo hi) g e = refl
 good_lists (Q.Nearest c r) g e = let z : ◌≡◌ {A = ℕ} 0 1 = cc in absurd (omega arith)
 
-good_finds : (q : Query) (p : Probe) (r : ℕ) → in_codes q ≡ W.Nearest p r → lists q ≡ false
+good_finds : (q : Query) (c : Colour) (r : ℕ) → in_codes q ≡ W.Nearest c r → lists q ≡ false
 unfolding in_codes lists
 good_finds (Q.Ball c r) d n e = let z : ◌≡◌ {A = ℕ} 0 1 = cc in absurd (omega arith)
 good_finds (Q.Box lo hi) d n e = let z : ◌≡◌ {A = ℕ} 0 1 = cc in absurd (omega arith)
@@ -88,8 +88,8 @@ good_finds (Q.Nearest c r) d n e = refl
 pub asked_lists : (q : Query) (g : Region) → asked_of q ≡ A.For (W.Listed g) → lists q ≡ true
 asked_lists q g e = good_lists q g (asked_told q (W.Listed g) e).1
 
-pub asked_finds : (q : Query) (p : Probe) (r : ℕ) → asked_of q ≡ A.For (W.Nearest p r) → lists q ≡ false
-asked_finds q p r e = good_finds q p r (asked_told q (W.Nearest p r) e).1
+pub asked_finds : (q : Query) (c : Colour) (r : ℕ) → asked_of q ≡ A.For (W.Nearest c r) → lists q ≡ false
+asked_finds q c r e = good_finds q c r (asked_told q (W.Nearest c r) e).1
 
 -- So a reply of that kind is one of the query's kind.
 pub of_kind_lem : {k l : Bool} (r : Reply) → k ≡ l → of_kind l r ≡ true → of_kind k r ≡ true
@@ -100,6 +100,21 @@ pub refusal_kind : (kind : Bool) (r : Refusal) → of_kind kind (Reply.Refused r
 unfolding of_kind
 refusal_kind kind r = refl
 
+-- An answer with another listing.
+unfoldable relisted : List ℕ → Answer → Answer
+relisted l a =
+    record {
+      number = a.number;
+      taken = a.taken;
+      listed = a.listed;
+      entered = a.entered;
+      measured = a.measured;
+      found = a.found;
+      tag = a.tag;
+      distance = a.distance;
+      listing = l;
+    }
+
 -- A reply's listing is the one that is left.
 pub reply_listing : (r : Reply) (l : List ℕ) → (reply_answer r l).listing ≡ l
 unfolding reply_answer plain nearest_answer list_answer
@@ -108,20 +123,39 @@ reply_listing (Reply.Found tag d) l = refl
 reply_listing Reply.Nothing l = refl
 reply_listing (Reply.Refused r) l = refl
 
--- Nearest uses no listing: what it answers is named with any.
-module _ (c : PanelColour) (r : Float) where
+-- A reply is the same with any listing, and so is what nearest answers.
+reply_relisted : (r : Reply) (l l' : List ℕ) → reply_answer r l' ≡ relisted l' (reply_answer r l)
+unfolding reply_answer relisted plain nearest_answer list_answer
+reply_relisted (Reply.Listed n e m) l l' = refl
+reply_relisted (Reply.Found tag d) l l' = refl
+reply_relisted Reply.Nothing l l' = refl
+reply_relisted (Reply.Refused r) l l' = refl
+
+best_relisted : (limit : ℕ) (b : Best) (l l' : List ℕ) → best_answer limit b l' ≡ relisted l' (best_answer limit b l)
+unfolding best_answer relisted nearest_answer
+best_relisted limit b l l' = go (ltb b.distance limit) refl
+  where
+    go : (f : Bool) → ltb b.distance limit ≡ f → best_answer limit b l' ≡ relisted l' (best_answer limit b l)
+    go true e = rw (e, best_answer)
+    go false e = rw (e, best_answer)
+
+plain_relisted : (n : ℕ) (l l' : List ℕ) → plain n l' ≡ relisted l' (plain n l)
+unfolding plain relisted nearest_answer
+plain_relisted n l l' = refl
+
+module _ (t : Tables) (c : PanelColour) (r : Float) where
   abbrev near : Query
   near = Q.Nearest c r
 
-  pub near_meets : (t : Tables) (x : Reply) → ((l : List ℕ) → reply_answer x l ≡ raw_answer t near l) → of_kind false x ≡ true
-      → ((l : List ℕ) → AskMeets near l t (reply_answer x l)) × (((l : List ℕ) → Bounds l t (reply_answer x l)) × (of_kind false x ≡ true))
-  near_meets t x e k = (λ l. ask_meets near l t (reply_answer x l) (e l), (λ l. ask_bounds near l t (reply_answer x l) (e l), k))
+  near_relisted : (l l' : List ℕ) → raw_answer t near l' ≡ relisted l' (raw_answer t near l)
+  unfolding raw_wanted in_codes
+  near_relisted l l' = go (long_enough current t) (query_good near) refl refl
+    where
+      go : (e g : Bool) → long_enough current t ≡ e → query_good near ≡ g → raw_answer t near l' ≡ relisted l' (raw_answer t near l)
+      go false g d f = rw (raw_short near l' t d, raw_short near l t d) (plain_relisted 1 l l')
+      go true false d f = rw (raw_refused near l' t d f, raw_refused near l t d f) (plain_relisted 9 l l')
+      go true true d f = rw (raw_wanted_lem near l' t d f, raw_wanted_lem near l t d f) (best_relisted _ _ l l')
 
-  -- What it asks, by its centre and radius in codes.
-  pub near_asked : (k : Colour) (n : ℕ) → sphere_if (panel_good c && radius_good r) c r ≡ S.Is k n → asked_of (Q.Nearest c r) ≡ A.For (W.Nearest (probe k) n)
-  unfolding query_good in_codes
-  near_asked k n e = sphere_asked near c r refl (λ x y. W.Nearest (probe x) y) refl k n e
-
-  pub near_refused : sphere_if (panel_good c && radius_good r) c r ≡ S.OutOfRange → asked_of (Q.Nearest c r) ≡ A.Refused OutOfRange
-  unfolding query_good
-  near_refused e = sphere_not_asked near c r refl e
+  -- So what nearest answers is named with any listing where it is with one.
+  pub near_named : (x : Reply) (l m : List ℕ) → reply_answer x m ≡ raw_answer t near l → (l' : List ℕ) → reply_answer x l' ≡ raw_answer t near l'
+  near_named x l m e l' = reply_relisted x m l' ∙ ap (relisted l') e ∙ sym (near_relisted l l')

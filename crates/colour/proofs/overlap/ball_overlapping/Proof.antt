@@ -10,15 +10,15 @@ use Rattle.colour.proofs.overlap.ball_overlapping.Tie as tie
 
 closest-squares-requires : tie.Need-closest-squares-requires
 unfolding code_in
-closest-squares-requires c κs = (c.before.requires.0.0.centre.red, child_room _ _ c.before.requires.0.1 c.before.requires.1.0 c.before.requires.1.1 Channel.Red)
+closest-squares-requires c κs = (c.before.requires.0.0.red, child_room _ _ c.before.requires.0.1 c.before.requires.1.0 c.before.requires.1.1 Channel.Red)
 
 closest-squares-requires-2 : tie.Need-closest-squares-requires-2
 unfolding code_in
-closest-squares-requires-2 c κs = (c.before.before.requires.0.0.centre.green, child_room _ _ c.before.before.requires.0.1 c.before.before.requires.1.0 c.before.before.requires.1.1 Channel.Green)
+closest-squares-requires-2 c κs = (c.before.before.requires.0.0.green, child_room _ _ c.before.before.requires.0.1 c.before.before.requires.1.0 c.before.before.requires.1.1 Channel.Green)
 
 closest-squares-requires-3 : tie.Need-closest-squares-requires-3
 unfolding code_in
-closest-squares-requires-3 c κs = (c.before.before.before.requires.0.0.centre.blue, child_room _ _ c.before.before.before.requires.0.1 c.before.before.before.requires.1.0 c.before.before.before.requires.1.1 Channel.Blue)
+closest-squares-requires-3 c κs = (c.before.before.before.requires.0.0.blue, child_room _ _ c.before.before.before.requires.0.1 c.before.before.before.requires.1.0 c.before.before.before.requires.1.1 Channel.Blue)
 
 square-requires : tie.Need-square-requires
 square-requires c κs = search rules

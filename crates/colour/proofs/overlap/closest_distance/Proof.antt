@@ -8,15 +8,15 @@ use Rattle.colour.proofs.overlap.closest_distance.Tie as tie
 
 closest-gap-requires : tie.Need-closest-gap-requires
 unfolding code_in
-closest-gap-requires c κs = (c.before.requires.0.centre.red, room _ c.before.requires.1 Channel.Red)
+closest-gap-requires c κs = (c.before.requires.0.red, room _ c.before.requires.1 Channel.Red)
 
 closest-gap-requires-2 : tie.Need-closest-gap-requires-2
 unfolding code_in
-closest-gap-requires-2 c κs = (c.before.before.requires.0.centre.green, room _ c.before.before.requires.1 Channel.Green)
+closest-gap-requires-2 c κs = (c.before.before.requires.0.green, room _ c.before.before.requires.1 Channel.Green)
 
 closest-gap-requires-3 : tie.Need-closest-gap-requires-3
 unfolding code_in
-closest-gap-requires-3 c κs = (c.before.before.before.requires.0.centre.blue, room _ c.before.before.before.requires.1 Channel.Blue)
+closest-gap-requires-3 c κs = (c.before.before.before.requires.0.blue, room _ c.before.before.before.requires.1 Channel.Blue)
 
 squares-requires : tie.Need-squares-requires
 squares-requires c κs = search rules

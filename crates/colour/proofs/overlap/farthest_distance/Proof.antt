@@ -8,15 +8,15 @@ use Rattle.colour.proofs.overlap.farthest_distance.Tie as tie
 
 farthest-gap-requires : tie.Need-farthest-gap-requires
 unfolding code_in
-farthest-gap-requires c κs = (c.before.requires.0.centre.red, room _ c.before.requires.1 Channel.Red)
+farthest-gap-requires c κs = (c.before.requires.0.red, room _ c.before.requires.1 Channel.Red)
 
 farthest-gap-requires-2 : tie.Need-farthest-gap-requires-2
 unfolding code_in
-farthest-gap-requires-2 c κs = (c.before.before.requires.0.centre.green, room _ c.before.before.requires.1 Channel.Green)
+farthest-gap-requires-2 c κs = (c.before.before.requires.0.green, room _ c.before.before.requires.1 Channel.Green)
 
 farthest-gap-requires-3 : tie.Need-farthest-gap-requires-3
 unfolding code_in
-farthest-gap-requires-3 c κs = (c.before.before.before.requires.0.centre.blue, room _ c.before.before.before.requires.1 Channel.Blue)
+farthest-gap-requires-3 c κs = (c.before.before.before.requires.0.blue, room _ c.before.before.before.requires.1 Channel.Blue)
 
 squares-requires : tie.Need-squares-requires
 squares-requires c κs = search rules

@@ -4,7 +4,6 @@ use mathlib.Core.Path.{refl, sym, ap, ◌∙◌}
 use Rattle.colour.specs.declared.Query.TheVariants.{Ball, Nearest}
 use Rattle.colour.specs.declared.Region.TheVariants as R
 use Rattle.colour.specs.declared.panel.Wanted.TheVariants as W
-use Rattle.colour.specs.Colour.{probe}
 use Rattle.colour.specs.Query.{query_good, in_codes, asked_of}
 use Rattle.colour.proofs.Floats.Queries.{asked_meets, sphere_asked, sphere_not_asked}
 use Rattle.colour.proofs.panel.asked_of.Statement.{statement}
@@ -47,7 +46,7 @@ returns c =
     asked_meets _ _
     (sym
     (ap asked_of d.before.before.before.before.q.given.1
-    ∙ sphere_asked (Ball _ _) _ _ refl (λ k n. W.Listed (R.Ball (probe k) n)) refl _ _ (sym d.before.before.sphere-of.ensures ∙ d.c.given.1)))
+    ∙ sphere_asked (Ball _ _) _ _ refl (λ k n. W.Listed (R.Ball k n)) refl _ _ (sym d.before.before.sphere-of.ensures ∙ d.c.given.1)))
 
 returns-2 : tie.Need-returns-2
 unfolding query_good
@@ -67,7 +66,7 @@ returns-4 c =
     asked_meets _ _
     (sym
     (ap asked_of d.before.before.before.before.q3.given.1
-    ∙ sphere_asked (Nearest _ _) _ _ refl (λ k n. W.Nearest (probe k) n) refl _ _ (sym d.before.before.sphere-of2.ensures ∙ d.c2.given.1)))
+    ∙ sphere_asked (Nearest _ _) _ _ refl W.Nearest refl _ _ (sym d.before.before.sphere-of2.ensures ∙ d.c2.given.1)))
 
 returns-5 : tie.Need-returns-5
 unfolding query_good

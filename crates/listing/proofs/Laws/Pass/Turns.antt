@@ -10,9 +10,8 @@ use Rattle.colour.specs.declared.Colour.{Colour}
 use Rattle.colour.specs.declared.Region.{Region}
 use Rattle.colour.specs.Octant.{child_low}
 use Rattle.colour.specs.Region.{overlaps}
-use Rattle.model.specs.Layout.{current}
-use Rattle.words.specs.Rows.{octant_limit}
-use Rattle.traversal.specs.Children.{child_at}
+use Rattle.model.specs.Layout.{Child, current}
+use Rattle.words.specs.Rows.{octant_field, octant_limit}
 use Rattle.listing.specs.Pass.{Tally, Visit, enters, nothing, and_then, visit_each, child_visit}
 
 -- A visit that finds nothing adds nothing.
@@ -73,11 +72,11 @@ module _ (os : List ℕ) (R : Region) (s : ℕ) (low : Colour) (row : ℕ) (t : 
 
 -- What the visit of a child is then.
 module _ (os : List ℕ) (R : Region) (f : ℕ → Colour → Tally → Visit) (s row : ℕ) (low : Colour) (k : ℕ) (t : Tally) where
-  pub turned_off : enters os R s (child_low s k low) (child_at os row k) t ≡ false → child_visit os R f s row low k t ≡ nothing t
+  pub turned_off : enters os R s (child_low s k low) (octant_field current os row (Child k)) t ≡ false → child_visit os R f s row low k t ≡ nothing t
   unfolding child_visit
   turned_off e = rw (e, child_visit)
 
-  pub turned_in : enters os R s (child_low s k low) (child_at os row k) t ≡ true
-      → child_visit os R f s row low k t ≡ f (child_at os row k) (child_low s k low) t
+  pub turned_in : enters os R s (child_low s k low) (octant_field current os row (Child k)) t ≡ true
+      → child_visit os R f s row low k t ≡ f (octant_field current os row (Child k)) (child_low s k low) t
   unfolding child_visit
   turned_in e = rw (e, child_visit)

@@ -15,9 +15,8 @@ use Rattle.colour.specs.Octant.{children, child_low}
 use Rattle.colour.specs.Mask.{mask_of, overlap_mask}
 use Rattle.colour.specs.Region.{overlaps}
 use Rattle.colour.proofs.Laws.Mask.{from, First, mask_none, mask_first, mask_start}
-use Rattle.model.specs.Layout.{current}
-use Rattle.words.specs.Rows.{octant_limit, sample_budget}
-use Rattle.traversal.specs.Children.{child_at}
+use Rattle.model.specs.Layout.{Child, current}
+use Rattle.words.specs.Rows.{octant_field, octant_limit, sample_budget}
 use Rattle.listing.specs.Pass.{Tally, Visit, nothing, and_then, visit_each, child_visit, visit_of}
 use Rattle.listing.specs.Steps.{TallyWithin, tally_words, listed_in, tally_in, Counting, Visited}
 use Rattle.listing.proofs.Laws.Pass.Turns.{then_nothing, turn_more, turn_none, turns_skipped, apart_from, barred, let_in, turned_off, turned_in}
@@ -81,7 +80,7 @@ module _ (ws os : List ℕ) (R : Region) (j row : ℕ) (low : Colour) where
 
   -- The row of child k, and whether it may be entered.
   abbrev pub at : ℕ → ℕ
-  at k = child_at os row k
+  at k = octant_field current os row (Child k)
 
   abbrev pub allowed : ℕ → Tally → Bool
   allowed k u = leb u.next (at k) && ltb (at k) (octant_limit current os)

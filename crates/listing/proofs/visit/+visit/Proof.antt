@@ -27,7 +27,7 @@ use Rattle.listing.proofs.tally.enter.Reads as enter
 use Rattle.listing.proofs.tally.may_enter.Reads as may-enter
 use Rattle.traversal.proofs.octant.ends.Reads as ends
 use Rattle.listing.proofs.visit.own_samples.Reads as own-samples
-use Rattle.traversal.proofs.octant.child_at.Reads as child-at
+use Rattle.words.proofs.layout.octant_child.Reads as octant-child
 use Rattle.words.proofs.layout.octant_limit.Reads as octant-limit
 use Rattle.listing.proofs.visit.+visit.{statement}
 use Rattle.listing.proofs.visit.+visit.Tie.{close}
@@ -68,8 +68,8 @@ module _ (t : ℕ) where
     first.Learnt,
     without.Asked,
     without.Learnt,
-    child-at.Asked,
-    child-at.Learnt,
+    octant-child.Asked,
+    octant-child.Learnt,
     may-enter.Asked,
     may-enter.Learnt,
     child.Asked,
@@ -127,7 +127,7 @@ module _ (t : ℕ) where
       let o = c.before.before in
       let f = o.before.before in
       let l = f.before.before in
-      allowed_is _ _ _ _ _ _ l.loop.invariant f.before.loop-test.true _ f.first.ensures _ _ _ o.child-at.ensures
+      allowed_is _ _ _ _ _ _ l.loop.invariant f.before.loop-test.true _ f.first.ensures _ _ _ o.octant-child.ensures
       l.before.before.before.octant-limit.ensures c.may-enter.ensures
 
   less : (c : Here lts.After-without) → c.without.result < c.before.before.before.loop.left
@@ -194,8 +194,8 @@ module _ (t : ℕ) where
       let f = found c in
       (omega (arith, f.below), f.within)
 
-  child-at-requires : Here lts.Need-child-at-requires
-  child-at-requires c κs =
+  octant-child-requires : Here lts.Need-octant-child-requires
+  octant-child-requires c κs =
       let s = from-loop c.before.before.before in
       (limit_rows _ _ s.pre.1.1.1.1.1, (found c.before).below)
 
@@ -238,7 +238,7 @@ module _ (t : ℕ) where
       let s = from-loop l in
       turning-visited _ _ _ _ _ _ l.loop.invariant f.before.loop-test.true _ f.first.ensures _ o.before.without.ensures
       (permitted m ∙ h.before.if2.true)
-      (child_visited s.args.cube _ (halved l.before.before) _ _ _ _ _ _ _ h.child.ensures.0 o.child-at.ensures v.visit.ensures)
+      (child_visited s.args.cube _ (halved l.before.before) _ _ _ _ _ _ _ h.child.ensures.0 o.octant-child.ensures v.visit.ensures)
 
   loop-less-2 : Here lts.Need-loop-smaller-2
   loop-less-2 c = less c.before.before.before.before
@@ -284,7 +284,7 @@ pub +visit-spec : {M : Type 1} → statement M
     (loop-holds t)
     (first-requires t)
     (without-requires t)
-    (child-at-requires t)
+    (octant-child-requires t)
     (may-enter-requires t)
     (child-requires t)
     (visit-requires t)

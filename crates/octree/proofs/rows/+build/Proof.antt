@@ -28,7 +28,7 @@ use Rattle.octree.proofs.Laws.Rows.Written.{Written, written_begins, written_ste
 use Rattle.octree.proofs.rows.build.Reads as build
 use Rattle.octree.proofs.rows.build.Kinds as kinds
 use Rattle.octree.proofs.rows.+build.Lts-build as lts
-use Rattle.octree.proofs.rows.child_word.Reads as child-word
+use Rattle.octree.proofs.rows.child_word.Reads as child_word_lem
 use Rattle.octree.proofs.rows.octant_of.Reads as octant_of
 use Rattle.octree.proofs.rows.+build.{statement}
 use Rattle.octree.proofs.rows.+build.Tie.{close}
@@ -63,8 +63,8 @@ module _ (t : ℕ) where
     sizes.Learnt,
     octant_words_is.Asked,
     octant_words_is.Learnt,
-    child-word.Asked,
-    child-word.Learnt,
+    child_word_lem.Asked,
+    child_word_lem.Learnt,
     and 2 kinds.ps (falls 2 kinds.ps ◌<◌ μ-build t) build.Pre,
     build.Post,
   )
@@ -250,7 +250,7 @@ module _ (t : ℕ) where
       let w = from.before in
       let i = w.before.loop.invariant in
       let o = octant w.before in (
-        pass_steps o i.0 w.loop-test.true _ _ word.child-word.ensures r.ensures.0,
+        pass_steps o i.0 w.loop-test.true _ _ word.child_word.ensures r.ensures.0,
         written_steps o i.0 w.loop-test.true i.1 refl from.octant_words.ensures.0 _ _ r.ensures.0 r.ensures.1
             r.auto.1.1.1.1.0,
       )

@@ -26,7 +26,7 @@ use Rattle.octree.proofs.Laws.Rows.Passed.{Opened, opened, Passed, pass_begins, 
 use Rattle.octree.proofs.rows.compare.Reads as compare
 use Rattle.octree.proofs.rows.compare.Kinds as kinds
 use Rattle.octree.proofs.rows.+compare.Lts-compare as lts
-use Rattle.octree.proofs.rows.child_word.Reads as child-word
+use Rattle.octree.proofs.rows.child_word.Reads as child_word_lem
 use Rattle.octree.proofs.rows.octant_of.Reads as octant_of
 use Rattle.octree.proofs.rows.row_told.Reads as row_told
 use Rattle.octree.proofs.rows.+compare.{statement}
@@ -64,8 +64,8 @@ module _ (t : ℕ) where
     sizes.Learnt,
     octant_words_is.Asked,
     octant_words_is.Learnt,
-    child-word.Asked,
-    child-word.Learnt,
+    child_word_lem.Asked,
+    child_word_lem.Learnt,
     and 2 kinds.ps (falls 2 kinds.ps ◌<◌ μ-compare t) compare.Pre,
     compare.Post,
   )
@@ -269,7 +269,7 @@ module _ (t : ℕ) where
       let r = c.before in
       let word = r.before.before.before.before.before in
       let w = word.before.before in (
-        pass_steps (octant w.before) w.before.loop.invariant.0 w.loop-test.true _ _ word.child-word.ensures (matched r).0,
+        pass_steps (octant w.before) w.before.loop.invariant.0 w.loop-test.true _ _ word.child_word.ensures (matched r).0,
         (matched r).1,
       )
 

@@ -1,0 +1,31 @@
+-- How far the children of an octant are from a colour.
+use Rattle.std.specs.Prelude.{ℕ, ◌+◌, leb}
+use Rattle.colour.specs.declared.Colour.{Colour}
+use Rattle.colour.specs.declared.nearby.Gaps.{Gaps}
+use Rattle.colour.specs.Colour.{code_in, sum_of}
+use Rattle.colour.specs.Octant.{bit_weight}
+use Rattle.colour.specs.Mask.{bit_if}
+use Rattle.colour.specs.Steps.{closest_square, halves_of, of_channel, child_sum, Small}
+
+-- The child, of side s, of the octant at low that a colour lies in or is closest to: in each channel the upper half where the code is at the middle or past it.
+unfoldable pub closest_child : Colour → ℕ → Colour → ℕ
+closest_child c s low = sum_of (λ h. bit_if (leb (code_in h low + s) (code_in h c)) (bit_weight h))
+
+-- What each half of each channel adds to the closest d² of a child, of side s, of the octant at low.
+unfoldable pub gaps_of : Colour → ℕ → Colour → Gaps
+gaps_of c s low =
+    record {
+      red = halves_of (closest_square c.red) s low.red;
+      green = halves_of (closest_square c.green) s low.green;
+      blue = halves_of (closest_square c.blue) s low.blue;
+    }
+
+-- Child k's sum: d² to its closest colour (`closest_by_lem` of proofs/Laws/Nearby.antt).
+unfoldable pub closest_by : Gaps → ℕ → ℕ
+closest_by g k = child_sum (of_channel g.red g.green g.blue) k
+
+-- All are squares of codes at most.
+pub record SmallGaps (g : Gaps) : Type 0 where
+  pub red : Small g.red
+  pub green : Small g.green
+  pub blue : Small g.blue

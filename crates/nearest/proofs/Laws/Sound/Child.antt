@@ -1,0 +1,125 @@
+-- On sound tables a turn of a child measures all its samples, or leaves them out where none of them comes before the best.
+use Prim.Native.Nat.{ℕ, suc, ◌+◌, ◌^◌, ◌≤◌, ◌<◌}
+use mathlib.Core.Bool.{Bool, true, false}
+use mathlib.Core.List.{List, [], ◌∷◌}
+use mathlib.Core.Path.{◌≡◌, refl, sym, ap, ◌∙◌, subst}
+use native.Mathlib.Omega.{arith}
+use lib.ListN.{length}
+use lib.Pow.{pow_pos}
+use Rattle.colour.specs.declared.Colour.{Colour}
+use Rattle.colour.specs.Colour.{distance}
+use Rattle.colour.specs.Octant.{children, child_low}
+use Rattle.colour.specs.Region.{closest}
+use Rattle.colour.proofs.Laws.Extremes.{closest_colour}
+use Rattle.model.specs.SampleSet.{Placed, part, splits, octants_of, octants}
+use Rattle.model.specs.Layout.{Child, current}
+use Rattle.model.specs.Tables.{pair, child_row, row_or_none}
+use Rattle.model.specs.Machine.{Machine}
+use Rattle.model.specs.Sound.{Shows}
+use Rattle.model.proofs.Tree.Cubes.{below, lies}
+use Rattle.words.specs.Rows.{octant_field, octant_limit}
+use Rattle.traversal.proofs.Laws.Sound.Each.{all_then, all_both}
+use Rattle.traversal.proofs.Laws.Sound.Shown.{limit_shown}
+use Rattle.traversal.proofs.Laws.Sound.Standing.{child_word_lem, child_stands, all_lie, octants_some}
+use Rattle.nearest.specs.declared.best.Best.{Best}
+use Rattle.nearest.specs.declared.search.Search.{Search}
+use Rattle.nearest.specs.Best.{closer}
+use Rattle.nearest.specs.Search.{reaches, child_search, search_of}
+use Rattle.nearest.proofs.Laws.Labels.{child_labels, labelled, labelled_none, labelled_all, labelled_within}
+use Rattle.nearest.proofs.Laws.Folds.{measured, measured_skips, closer_farther}
+use Rattle.nearest.proofs.Laws.Entered.{reaches_none, reaches_farther, reaches_yes, turned_off, turned_in}
+use Rattle.nearest.proofs.Laws.Sound.Own.{Stands, Agrees}
+
+module _ (ws os : List ℕ) (m : Machine) (shows : Shows current m (pair ws os)) (c : Colour) where
+  abbrev b : ℕ
+  b = m.set.settings.bucket
+
+  abbrev n : ℕ
+  n = length m.set.samples
+
+  abbrev Standing : ℕ → Colour → List Placed → ℕ → Search → Type 0
+  Standing = Stands ws os m shows c
+
+  abbrev Agreeing : ℕ → List Placed → ℕ → Search → Search → Type 0
+  Agreeing = Agrees ws os m shows c
+
+  -- The children of a split octant of side 2 ^ suc j, with what a search of one below it comes to.
+  module _ (j : ℕ) (low : Colour) (xs : List Placed) (at : ℕ) (s : Search) (st : Standing (suc j) low xs at s) (split : splits b (suc j) xs ≡ true)
+      (ih : (l : Colour) (zs : List Placed) (row : ℕ) (u : Search) → Standing j l zs row u → Agreeing j zs row u (search_of ws os c j row l u)) where
+    abbrev kid : ℕ → List Placed
+    kid k = part j k xs
+
+    abbrev kid_row : ℕ → ℕ
+    kid_row k = child_row b j at xs k
+
+    abbrev kid_low : ℕ → Colour
+    kid_low k = child_low (2 ^ j) k low
+
+    abbrev word : ℕ → ℕ
+    word k = octant_field current os at (Child k)
+
+    -- How far the closest colour of child k is.
+    abbrev gap : ℕ → ℕ
+    gap k = distance c (closest c (2 ^ j) (kid_low k))
+
+    abbrev turn : ℕ → Search → Search
+    turn = child_search os c (search_of ws os c j) (2 ^ j) at low
+
+    abbrev Adds : ℕ → Search → Search → Type 0
+    Adds k u v = Agreeing j (kid k) (kid_row k) u v
+
+    -- A child that is not entered adds nothing.
+    adds_nothing : (k : ℕ) (u : Search) → measured c u.best (child_labels b j at xs k) ≡ u.best → Adds k u u
+    adds_nothing k u e = record { best = sym e; entered = omega arith; visited = omega arith }
+
+    -- None of the samples of a child that does not come before the best does.
+    none_closer : (k : ℕ) → k < children → (best : Best) → closer best (gap k) (kid_row k) ≡ false
+        → measured c best (child_labels b j at xs k) ≡ best
+    none_closer k l best e =
+        measured_skips c best (child_labels b j at xs k)
+        (all_then _ _
+        (λ y w. closer_farther best (gap k) (kid_row k) (distance c y.sample.sample.colour) y.octant e
+        ((closest_colour c (2 ^ j) (kid_low k) (pow_pos j)).1 y.sample.sample.colour w.1) w.0.0) _
+        (all_both _ _ _ (labelled_within b j (kid_row k) (kid k))
+        (labelled_all (λ x. lies (2 ^ j) (kid_low k) x ≡ true) b j (kid_row k) (kid k) (all_lie ws os m shows (below k l st.stands.reached)))))
+
+    -- A child that holds a sample stands in the tree.
+    kid_stands : (k : ℕ) → k < children → (u : Search) → 1 ≤ length (kid k) → u.visited + length (kid k) ≤ n
+        → u.entered + octants_of b j (kid k) ≤ octants m.set → Standing j (kid_low k) (kid k) (kid_row k) u
+    kid_stands k l u g r o = record { stands = child_stands ws os m shows st.stands split k l u.visited g r; room = o }
+
+    -- The bounds never keep it out.
+    never_barred : (k : ℕ) (u : Search) → Standing j (kid_low k) (kid k) (kid_row k) u → word k ≡ kid_row k
+        → closer u.best (gap k) (kid_row k) ≡ true → reaches os (word k) (gap k) u ≡ true
+    unfolding child_row
+    never_barred k u d w e =
+        let some : 1 ≤ octants_of b j (kid k) = octants_some b j (kid k) d.stands.some in
+        let limit : octant_limit current os ≡ octants m.set = limit_shown ws os m shows in
+        rw w (reaches_yes os (kid_row k) (gap k) u (omega arith) (omega (arith, d.stands.within)) (omega (arith, d.room)) e)
+
+    -- What a turn of child k comes to, whether or not it is entered.
+    pub child_adds : (k : ℕ) → k < children → (u : Search) → u.visited + length (kid k) ≤ n → u.entered + octants_of b j (kid k) ≤ octants m.set
+        → Adds k u (turn k u)
+    unfolding row_or_none measured
+    child_adds k l u r o = go (kid k) refl
+      where
+        none : kid k ≡ [] → Adds k u (turn k u)
+        none e =
+            let w : word k ≡ 0 = child_word_lem ws os m shows st.stands split k l ∙ ap (row_or_none (kid_row k)) e in
+            subst (Adds k u) (sym (turned_off os c (search_of ws os c j) (2 ^ j) at low k u (reaches_none os (word k) (gap k) u w)))
+            (adds_nothing k u (ap (measured c u.best) (ap (labelled b j (kid_row k)) e ∙ labelled_none b j (kid_row k))))
+
+        some : 1 ≤ length (kid k) → word k ≡ kid_row k → (q : Bool) → closer u.best (gap k) (kid_row k) ≡ q → Adds k u (turn k u)
+        some g w false e =
+            let off : reaches os (word k) (gap k) u ≡ false = reaches_farther os (word k) (gap k) u (rw w e) in
+            subst (Adds k u) (sym (turned_off os c (search_of ws os c j) (2 ^ j) at low k u off)) (adds_nothing k u (none_closer k l u.best e))
+        some g w true e =
+            let d = kid_stands k l u g r o in
+            subst (Adds k u) (sym (turned_in os c (search_of ws os c j) (2 ^ j) at low k u (never_barred k u d w e)))
+            (subst (λ (row : ℕ). Adds k u (search_of ws os c j row (kid_low k) u)) (sym w) (ih (kid_low k) (kid k) (kid_row k) u d))
+
+        go : (zs : List Placed) → kid k ≡ zs → Adds k u (turn k u)
+        go [] e = none e
+        go (z ∷ zs) e =
+            some (omega (arith, ap length e)) (child_word_lem ws os m shows st.stands split k l ∙ ap (row_or_none (kid_row k)) e)
+            (closer u.best (gap k) (kid_row k)) refl

@@ -1,0 +1,79 @@
+// The samples of an octant, measured by their next words. Nothing is trusted: a row is tested before it is read, and a code brought into range.
+ghost use Rattle.std.specs.Prelude.{◌<◌, ◌≡◌, length};
+ghost use Rattle.colour.specs.Colour.{InRange};
+ghost use Rattle.model.specs.Layout.{current, sample_rows};
+ghost use Rattle.words.specs.Rows.{octant_limit};
+ghost use Rattle.nearest.specs.Search.{measure_row, own_search};
+ghost use Rattle.nearest.specs.Steps.{Measured, Ready};
+
+use crate::best::{Best, taken};
+use colour::distance::squared;
+use colour::{Colour, wrapped};
+use traversal::octant::most;
+use words::layout::{
+    colour as colour_of, next as next_of, octant_first, sample_rows, tag as tag_of,
+};
+
+// What a search has come to: the best so far, how many octants were entered, and how many samples visited.
+#[derive(Drop)]
+pub struct Search {
+    pub best: Best,
+    pub entered: u32,
+    pub visited: u32,
+}
+
+// What a run of samples came to: the best after it, and how many samples it saw.
+#[derive(Drop)]
+pub struct Run {
+    pub best: Best,
+    pub seen: u32,
+}
+
+// The best, once the sample in a row is measured.
+fn measure_row(samples: &[u32], centre: Colour, octant: u32, best: Best, row: usize) -> Best
+    requires { (InRange centre) × (row < sample_rows current (length samples.now)) }
+    ensures { result ≡ measure_row samples.now centre octant best row }
+{
+    let distance = squared(centre, wrapped(colour_of(samples, row)));
+    taken(best, distance, octant, tag_of(samples, row))
+}
+
+// Goes through count samples at most, from row first on.
+fn measure(samples: &[u32], centre: Colour, octant: u32, first: u32, count: u32, start: Best) -> Run
+    requires { InRange centre }
+    ensures { Measured samples.now centre octant first count start result }
+{
+    let rows = sample_rows(samples.len());
+    let mut row = first as usize;
+    let mut seen: u32 = 0;
+    let mut best = start;
+    while seen < count {
+        if rows <= row {
+            return Run { best, seen };
+        }
+        let here = row;
+        row = next_of(samples, here) as usize;
+        seen += 1;
+        best = measure_row(samples, centre, octant, best, here);
+    }
+    Run { best, seen }
+}
+
+// An entered octant's own samples.
+pub fn own(samples: &[u32], octants: &[u32], centre: Colour, row: u32, search: Search) -> Search
+    requires in_range { InRange centre }
+    requires ready { Ready samples.now octants.now search }
+    requires row_bound { row < octant_limit current octants.now }
+    ensures { result ≡ own_search samples.now octants.now centre row search }
+{
+    let count = most(samples, octants, row, search.visited);
+    let first = octant_first(octants, row);
+    let start = search.best;
+    let run = measure(samples, centre, row, first, count, start);
+    let best = run.best;
+    Search {
+        best,
+        entered: search.entered,
+        visited: search.visited + run.seen,
+    }
+}
