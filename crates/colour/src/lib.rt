@@ -1,5 +1,7 @@
 // Colours, octant cubes, Morton keys, and panel floats to codes and back.
 // The types that every crate shares are declared here, and how any three words are brought into range.
+#![tactic(auto)]
+
 pub mod distance;
 pub mod mask;
 pub mod morton;
@@ -13,7 +15,7 @@ ghost use Rattle.std.specs.Prelude.{◌≡◌};
 ghost use Rattle.colour.specs.Colour.{wrapped, InRange};
 
 // A colour: red, green and blue codes. The words are wider than a code, so that a code out of range can be passed and refused.
-#[derive(Drop)]
+#[derive(Clone, Copy)]
 pub struct Colour {
     pub red: u32,
     pub green: u32,
@@ -21,7 +23,7 @@ pub struct Colour {
 }
 
 // A panel colour: three floats that travel together.
-#[derive(Drop)]
+#[derive(Clone, Copy)]
 pub struct PanelColour {
     pub red: f32,
     pub green: f32,
@@ -29,20 +31,20 @@ pub struct PanelColour {
 }
 
 // A sample (the paper's swatch).
-#[derive(Drop)]
+#[derive(Clone, Copy)]
 pub struct Sample {
     pub tag: u32,
     pub colour: Colour,
 }
 
 // What a clear sets (document 01, "The bin"): the bucket size b.
-#[derive(Drop)]
+#[derive(Clone, Copy)]
 pub struct Settings {
     pub bucket: u32,
 }
 
 // A query (the paper's gesture), with its panel floats: a centre and a radius, or a low and a high colour.
-#[derive(Drop)]
+#[derive(Clone, Copy)]
 pub enum Query {
     Ball(PanelColour, f32),
     Box(PanelColour, PanelColour),
@@ -50,14 +52,14 @@ pub enum Query {
 }
 
 // The colours that a ball or a box asks for, in codes.
-#[derive(Drop)]
+#[derive(Clone, Copy)]
 pub enum Region {
     Ball(Colour, u32),
     Box(Colour, Colour),
 }
 
 // An octant as a cube of colours: its least colour, its depth, and its side, which goes with it so that it is looked up once.
-#[derive(Drop)]
+#[derive(Clone, Copy)]
 pub struct Cube {
     pub low: Colour,
     pub depth: u32,

@@ -10,7 +10,7 @@ use crate::overlap::{Halves, closest_squares};
 use crate::{Colour, Cube};
 
 // What each half of each channel adds to a child's closest d².
-#[derive(Drop)]
+#[derive(Clone, Copy)]
 pub struct Gaps {
     pub red: Halves,
     pub green: Halves,

@@ -44,7 +44,7 @@ fn child_code(low: u32, k: u32, weight: u32, side: u32) -> u32
 
 // Child k of an octant of side over 1. The caller looks up the children's side, once for all eight.
 pub fn child(c: Cube, half: u32, k: u32) -> Cube
-    requires within_2 { Within c }
+    requires cube_within { Within c }
     requires depth_bound { c.depth < 16 }
     requires half_value { half ≡ side_at (suc c.depth) }
     ensures is { result ≡ child_cube c k }

@@ -165,7 +165,7 @@ pub fn inside(region: Region, cube: Cube) -> bool
 }
 
 // What each half of a channel adds to a child's sum: to the closest d² for a ball, 0 or 1 for a box.
-#[derive(Drop)]
+#[derive(Clone, Copy)]
 pub struct Halves {
     pub lower: u64,
     pub upper: u64,

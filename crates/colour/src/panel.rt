@@ -10,42 +10,42 @@ use crate::refusal::Refusal;
 use crate::{Colour, PanelColour, Query, Region};
 
 // A float's code, or that it is out of range.
-#[derive(Drop)]
+#[derive(Clone, Copy)]
 enum Code {
     Is(u32),
     OutOfRange,
 }
 
 // A panel colour's codes, or the refusal of question 9.
-#[derive(Drop)]
+#[derive(Clone, Copy)]
 pub enum Codes {
     Are(Colour),
     Refused(Refusal),
 }
 
 // A colour as panel floats, or the refusal of question 4.
-#[derive(Drop)]
+#[derive(Clone, Copy)]
 pub enum Floats {
     Are(PanelColour),
     Refused(Refusal),
 }
 
 // A centre and a radius in codes, or that one is out of range.
-#[derive(Drop)]
+#[derive(Clone, Copy)]
 enum Sphere {
     Is(Colour, u32),
     OutOfRange,
 }
 
 // What a query wants, in codes: what lies in a region, or what is nearest to a centre within a radius.
-#[derive(Drop)]
+#[derive(Clone, Copy)]
 pub enum Wanted {
     Listed(Region),
     Nearest(Colour, u32),
 }
 
 // What a query asks for, or the refusal of question 9.
-#[derive(Drop)]
+#[derive(Clone, Copy)]
 pub enum Asked {
     For(Wanted),
     Refused(Refusal),

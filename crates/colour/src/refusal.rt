@@ -3,7 +3,7 @@ ghost use Rattle.std.specs.Prelude.{◌≡◌};
 ghost use Rattle.colour.specs.Refusal.{refusal_number};
 
 // One case for each question that can be answered with no, in the sequence of their numbers. C and Rust name them alike.
-#[derive(Drop)]
+#[derive(Clone, Copy)]
 pub enum Refusal {
     TooShort,
     Unsound,

@@ -1,4 +1,6 @@
 // The C boundary. Each call takes numbers, floats and lent words, and is a thin call of the crate that does the work.
+#![tactic(auto)]
+
 ghost use Rattle.std.specs.Prelude.{ℕ, ◌≤◌, List, [], ◌≡◌};
 ghost use Rattle.colour.specs.Panel.{floats_to_codes, codes_to_floats};
 ghost use Rattle.sheet.specs.Line.{write_line};

@@ -10,7 +10,7 @@ use colour::{Region, wrapped};
 use words::layout::{colour as colour_of, next as next_of, sample_rows, tag as tag_of};
 
 // Where a run of samples left the listing, and how many samples it saw.
-#[derive(Drop)]
+#[derive(Clone, Copy)]
 pub struct Run {
     pub end: u32,
     pub seen: u32,

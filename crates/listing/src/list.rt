@@ -12,7 +12,7 @@ use colour::refusal::Refusal;
 use words::layout::sample_budget;
 
 // What became of a listing: all were listed, so many, with octants entered and samples measured; or the refusal of question 13.
-#[derive(Drop)]
+#[derive(Clone, Copy)]
 pub enum Listed {
     All(u32, u32, u32),
     Refused(Refusal),
@@ -34,7 +34,7 @@ fn how_many(samples: &[u32], octants: &[u32], region: Region) -> usize
 fn write(samples: &[u32], octants: &[u32], region: Region, listing: &mut [u32]) -> Listed
     requires fair { (Fair region)
         × ((sample_header current ≤ length samples.now) × (octant_header current ≤ length octants.now)) }
-    requires region_in_bounds { length (pass_of samples.now octants.now region).tags ≤ length listing.old }
+    requires room { length (pass_of samples.now octants.now region).tags ≤ length listing.old }
     ensures { listed_answer result listing.new
         ≡ pass_answer (pass_of samples.now octants.now region) listing.old }
 {

@@ -60,7 +60,7 @@ fn visit(
     requires fair { Fair region }
     requires within { Within cube }
     requires counting { Counting samples.now octants.now tally.old }
-    requires tally_bound { ((tally_in tally.old).next ≤ row) × (row < octant_limit current octants.now) }
+    requires next_bound { ((tally_in tally.old).next ≤ row) × (row < octant_limit current octants.now) }
     ensures { Visited
         (visit_of samples.now octants.now region (16 - cube.depth) row cube.low (tally_in tally.old))
         tally.old listing.old tally.new listing.new }
@@ -102,8 +102,8 @@ pub fn pass(
     tally: &mut [u32; 5],
 )
     requires fair { Fair region }
-    requires current_in_bounds { (sample_header current ≤ length samples.now) × (octant_header current ≤ length octants.now) }
-    requires tally_value { tally.old ≡ tally_words 0 no_tally }
+    requires headed { (sample_header current ≤ length samples.now) × (octant_header current ≤ length octants.now) }
+    requires blank { tally.old ≡ tally_words 0 no_tally }
     ensures visited { Visited
         (pass_of samples.now octants.now region)
         tally.old listing.old tally.new listing.new }

@@ -4,7 +4,7 @@ ghost use Rattle.nearest.specs.Best.{closer, taken};
 
 // How far it is, the row of its octant, and its tag. Before one is found, the distance is the limit and the row is 0; so one is found exactly where the
 // distance is below the limit. (A field that says so would leave bytes without a meaning, which are slow to copy.)
-#[derive(Drop)]
+#[derive(Clone, Copy)]
 pub struct Best {
     pub distance: u64,
     pub octant: u32,

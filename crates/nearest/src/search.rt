@@ -15,7 +15,7 @@ use words::layout::{
 };
 
 // What a search has come to: the best so far, how many octants were entered, and how many samples visited.
-#[derive(Drop)]
+#[derive(Clone, Copy)]
 pub struct Search {
     pub best: Best,
     pub entered: u32,
@@ -23,7 +23,7 @@ pub struct Search {
 }
 
 // What a run of samples came to: the best after it, and how many samples it saw.
-#[derive(Drop)]
+#[derive(Clone, Copy)]
 pub struct Run {
     pub best: Best,
     pub seen: u32,

@@ -102,7 +102,7 @@ fn start(radius: u32) -> Search
 // Nearest over codes: the root is entered where it is there.
 pub fn nearest(samples: &[u32], octants: &[u32], centre: Colour, radius: u32) -> Best
     requires in_range { InRange centre }
-    requires current_in_bounds { (sample_header current ≤ length samples.now) × (octant_header current ≤ length octants.now) }
+    requires headed { (sample_header current ≤ length samples.now) × (octant_header current ≤ length octants.now) }
     ensures { result ≡ (search_all samples.now octants.now centre radius).best }
 {
     let none = start(radius);

@@ -12,7 +12,7 @@ use order::partition::sizes;
 use words::layout::{Octant, octant_is, octant_words, put_octant};
 
 // What comparing comes to: the octants that were found to be right, or that a row differs.
-#[derive(Drop)]
+#[derive(Clone, Copy)]
 pub enum Compared {
     Same(u32),
     Different,

@@ -24,7 +24,7 @@ use words::layout::{
 use words::zeros::{are_zero, clear};
 
 // Whether a list of samples finds rows and its tree finds octant rows, and how many octants that is: questions 6 and 7.
-#[derive(Drop)]
+#[derive(Clone, Copy)]
 pub enum Fit {
     Fits(u32),
     Refused(Refusal),

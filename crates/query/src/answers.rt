@@ -10,7 +10,7 @@ use nearest::best::Best;
 
 // What became of a query: all were listed, so many, with octants entered and samples measured; one was found, its tag and d², or none; or a
 // refusal by 1, 9 or 13.
-#[derive(Drop)]
+#[derive(Clone, Copy)]
 pub enum Reply {
     Listed(u32, u32, u32),
     Found(u32, u64),
@@ -19,7 +19,7 @@ pub enum Reply {
 }
 
 // The number, and all that is reported.
-#[derive(Drop)]
+#[derive(Clone, Copy)]
 pub struct Report {
     pub number: u32,
     pub listed: u32,

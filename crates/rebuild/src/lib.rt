@@ -1,4 +1,6 @@
 // Both tables rebuilt from the samples in the first rows: what a build costs by itself, to be measured and compared. Not in the header.
+#![tactic(auto)]
+
 ghost use Rattle.model.specs.Tables.{tables_lent, tables_left};
 ghost use Rattle.samples.specs.Answers.{changed_number};
 ghost use Rattle.rebuild.specs.Questions.{RebuildMeets};

@@ -10,7 +10,7 @@ use query::answers::Reply;
 use samples::answers::{Changed, Loaded, number_of};
 
 // A call that changes a set. The sheet of a load is lent beside it.
-#[derive(Drop)]
+#[derive(Clone, Copy)]
 pub enum Changing {
     Load,
     Add(Sample),
@@ -18,7 +18,7 @@ pub enum Changing {
 }
 
 // Any call. The listing of a query is lent beside it.
-#[derive(Drop)]
+#[derive(Clone, Copy)]
 pub enum Call {
     Clear(Settings),
     Change(Changing),
@@ -26,7 +26,7 @@ pub enum Call {
 }
 
 // All that a call gives back besides the tables and the listing; what it does not report is 0.
-#[derive(Drop)]
+#[derive(Clone, Copy)]
 pub struct Given {
     pub number: u32,
     pub taken: u32,

@@ -5,21 +5,21 @@ ghost use Rattle.samples.specs.Answers.{changed_number, loaded_number, loaded_ta
 use colour::refusal::Refusal;
 
 // What became of a clear, an add or a remove: done, or a refusal. A clear refuses by 1 and 3, an add by 1, 2, 4, 5, 6 and 7, a remove by 1, 2 and 8.
-#[derive(Drop)]
+#[derive(Clone, Copy)]
 pub enum Changed {
     Done,
     Refused(Refusal),
 }
 
 // What became of a load: all lines were taken, so many; or a refusal, by 1, 2 or 11, or at a line by 12, 5, 6 or 7, after so many lines that were taken.
-#[derive(Drop)]
+#[derive(Clone, Copy)]
 pub enum Loaded {
     All(u32),
     Refused(Refusal, u32),
 }
 
 // A load's number, and how many lines were taken.
-#[derive(Drop)]
+#[derive(Clone, Copy)]
 pub struct Report {
     pub number: u32,
     pub taken: u32,

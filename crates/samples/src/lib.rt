@@ -1,4 +1,6 @@
 // The calls that change a sample set: clear, add, remove and load. Each leaves the tables of the machine's set, every word.
+#![tactic(auto)]
+
 pub mod add;
 pub mod answers;
 pub mod clear;

@@ -6,7 +6,7 @@ ghost use Rattle.sheet.specs.Steps.{number_is, within};
 use crate::text::{blanks, put_blanks};
 
 // The number in a column, or that there is none in range.
-#[derive(Drop)]
+#[derive(Clone, Copy)]
 pub enum Number {
     Is(u64),
     Missing,

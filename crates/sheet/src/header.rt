@@ -19,7 +19,7 @@ const COUNT_END: usize = TITLE_LENGTH + COUNT_COLUMNS;
 const HEADER_LENGTH: usize = COUNT_END + 1;
 
 // The number of lines that a good header says, or the refusal of question 11.
-#[derive(Drop)]
+#[derive(Clone, Copy)]
 pub enum Header {
     Lines(usize),
     Refused(Refusal),

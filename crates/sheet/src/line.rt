@@ -36,14 +36,14 @@ const GREATEST_TAG: u64 = 0xffff_ffff;
 const GREATEST_CODE: u64 = 65535;
 
 // What a good line says: its sample, and the length of its name.
-#[derive(Drop)]
+#[derive(Clone, Copy)]
 pub struct Line {
     pub sample: Sample,
     pub name_length: usize,
 }
 
 // What a line reads as, or the refusal of question 12.
-#[derive(Drop)]
+#[derive(Clone, Copy)]
 pub enum Reading {
     Good(Line),
     Refused(Refusal),

@@ -6,7 +6,7 @@ use crate::header::{Header, line_at, line_start, read_header};
 use crate::line::{NAME_START, Reading};
 
 // A part of a sheet: where it starts, and how many bytes it has.
-#[derive(Drop)]
+#[derive(Clone, Copy)]
 pub struct Part {
     pub start: usize,
     pub size: usize,

@@ -17,7 +17,7 @@ use colour::panel::codes_fit;
 use colour::refusal::Refusal;
 
 // What became of a line to write: it stands where it was to be, or the refusal of question 4, 10 or 13.
-#[derive(Drop)]
+#[derive(Clone, Copy)]
 pub enum Written {
     Line,
     Refused(Refusal),

@@ -1,4 +1,6 @@
 // The round trip in use: a written line reads back as it was given, and the names of a sheet of written lines are found.
+#![tactic(auto)]
+
 ghost use Rattle.std.specs.Prelude.{◌&&◌, ◌++◌, ◌≡◌, ◌≤◌, length, take, drop};
 ghost use Rattle.colour.specs.Colour.{codes_fit};
 ghost use Rattle.sheet.specs.Line.{name_good, write_line};

@@ -1,3 +1,5 @@
 // What the program walklist prints.
+#![tactic(auto)]
+
 mod lines;
 pub mod print;

@@ -18,7 +18,7 @@ fn least(a: u32, b: u32) -> u32
 
 // As many samples as the octant in a row counts, and as may still be visited.
 pub fn most(samples: &[u32], octants: &[u32], row: u32, visited: u32) -> u32
-    requires current_in_bounds { (sample_header current ≤ length samples.now) × (row < octant_rows current (length octants.now)) }
+    requires headed { (sample_header current ≤ length samples.now) × (row < octant_rows current (length octants.now)) }
     requires visited_bound { visited ≤ sample_budget current samples.now }
     ensures { result ≡ own_most samples.now octants.now row visited }
 {

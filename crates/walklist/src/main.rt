@@ -1,4 +1,6 @@
 // The program walklist: the tags of a sheet's samples, in the order, or a refusal. What it prints is `tag_list`'s; here it only reads and writes.
+#![tactic(auto)]
+
 use libc::{STDIN_FILENO, STDOUT_FILENO};
 use tag_list::print::{INPUT_LENGTH, TEXT_LENGTH, print};
 

@@ -261,7 +261,7 @@ pub fn octant_child(octants: &[u32], row: u32, k: u32) -> u32
 }
 
 // What an octant row says besides its children.
-#[derive(Drop)]
+#[derive(Clone, Copy)]
 pub struct Octant {
     pub first: u32,
     pub last: u32,

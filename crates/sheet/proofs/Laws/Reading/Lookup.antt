@@ -7,7 +7,7 @@ use mathlib.Core.Path.{◌≡◌, refl, sym, ap, ◌∙◌}
 use native.Mathlib.Numerals.{add-one}
 use native.Mathlib.Omega.{arith}
 use borrow.Author.Tests.{eq-eqb, ne_eqb, eqb-true, eqb-false}
-use borrow.Rule.Slice.PartAt.{sl_part}
+use borrow.Rule.Slice.PartAt.{sl_partˢ}
 use borrow.Rule.Slice.Shared.{by_byte}
 use denote.Ref.{Bor}
 use lib.Dec.{eqb}
@@ -206,9 +206,9 @@ module _ (sheet : Bor (List ℕ)) (tag : ℕ) (p : Part) (e : p ≡ name_part sh
   pub part_within : Within p (length sheet.now)
   part_within = rw e (name_within sheet.now tag)
 
-  pub name_in : (γ : ℕ) → NameIn sheet tag (sl_part sheet (by_byte p.start sheet.ref_ptr.1) p.start (p.start + p.size) γ)
+  pub name_in : NameIn sheet tag (sl_partˢ sheet (by_byte p.start sheet.ref_ptr.1) p.start (p.start + p.size))
   unfolding bytes_of
-  name_in γ =
+  name_in =
       let size : p.start + p.size - p.start ≡ p.size = omega arith in
       let place : p.start + sheet.ref_ptr.1 ≡ sheet.ref_ptr.1 + p.start = omega arith in
       record {

@@ -1,0 +1,21 @@
+-- Each test picks the case of the closest code; the rest is sums and differences.
+use borrow.Author.Rules.{rules}
+use Rattle.colour.specs.Colour.{apart}
+use Rattle.colour.specs.Octant.{last_code}
+use Rattle.colour.proofs.Laws.Gaps.{closest_low, closest_high, closest_self}
+use Rattle.colour.proofs.overlap.closest_gap.Goals as goal
+
+pub returns-then-x-low : goal.returns-then-x-low
+unfolding apart last_code
+returns-then-x-low c =
+    rw (closest_low _ _ _ c.if-x-low.true) (search rules)
+
+pub returns-then-last-x : goal.returns-then-last-x
+unfolding apart last_code
+returns-then-last-x c =
+    rw (closest_high _ _ _ c.if-x-low.false c.if-last-x.true) (search rules)
+
+pub returns : goal.returns
+unfolding apart last_code
+returns c =
+    rw (closest_self _ _ _ c.if-x-low.false c.if-last-x.false) (search rules)

@@ -1,0 +1,25 @@
+-- `line::name_length`: each return by the tests that led there, by laws of Laws.Reading.Lines.
+use borrow.Author.Rules.{rules}
+use native.Mathlib.Omega.{arith}
+use Rattle.sheet.proofs.Laws.Parts.{part_tail}
+use Rattle.sheet.proofs.Laws.Text.{leading_most}
+use Rattle.sheet.proofs.Laws.Reading.Lines.{name_followed, name_alone}
+use Rattle.sheet.proofs.line.name_length.Goals as goal
+
+pub slice_bounds-rest-count : goal.slice_bounds-rest-count
+slice_bounds-rest-count c =
+    omega (arith, leading_most c.args.field.now)
+
+pub slice_bounds-rest-start : goal.slice_bounds-rest-start
+slice_bounds-rest-start c =
+    omega (arith, leading_most c.args.field.now)
+
+pub returns-then-blanks-rest : goal.returns-then-blanks-rest
+returns-then-blanks-rest c =
+    name_followed _ _ c.name_bytes-n.ensures _ (part_tail c.args.field.now c.name_bytes-n.result) _ c.blanks.ensures
+    c.if-blanks-rest.true
+
+pub returns : goal.returns
+returns c =
+    name_alone _ _ c.name_bytes-n.ensures _ (part_tail c.args.field.now c.name_bytes-n.result) _ c.blanks.ensures
+    c.if-blanks-rest.false c.requires

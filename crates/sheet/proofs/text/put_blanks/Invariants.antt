@@ -1,0 +1,19 @@
+-- `text::put_blanks`: what was passed is blank.
+use borrow.Author.Rules.{rules}
+use Prim.Native.Nat.{◌-◌, ◌≤◌}
+use mathlib.Core.List.{◌++◌}
+use mathlib.Core.Path.{◌≡◌, refl, ◌∙◌}
+use native.Mathlib.Omega.{arith}
+use lib.ListN.{length, drop, replicate, length-set}
+use borrow.Author.Fill.{fill_none, fill_more}
+use Rattle.sheet.specs.Column.{blank}
+use Rattle.sheet.proofs.Laws.Text.{fill_all}
+use Rattle.sheet.proofs.text.put_blanks.Given as goal
+
+abbrev pub invariant-loop-i : goal.invariant-loop-i
+invariant-loop-i l =
+    (l.i ≤ length l.initial.place) × (length l.place ≡ length l.initial.place) × (l.place ≡ replicate l.i blank ++ drop l.i l.initial.place)
+
+abbrev pub decreases-loop-i : goal.decreases-loop-i
+decreases-loop-i l =
+    length l.initial.place - l.i
