@@ -5,7 +5,7 @@ ghost use Rattle.std.specs.Prelude.{ℕ, ◌≤◌, List, [], ◌≡◌};
 ghost use Rattle.colour.specs.Panel.{floats_to_codes, codes_to_floats};
 ghost use Rattle.sheet.specs.Line.{write_line};
 ghost use Rattle.sheet.specs.Sheet.{name_part};
-ghost use Rattle.model.specs.Tables.{tables_lent, tables_left};
+ghost use Rattle.model.specs.Tables.{tables_lent, tables_left, tables_read};
 ghost use Rattle.model.specs.Machine.{Clear, Change, Add, Remove, Load, plain, load_answer};
 ghost use Rattle.model.specs.Meets.{Meets, CheckMeets};
 ghost use Rattle.query.specs.Answers.{AskMeets, Bounds};
@@ -188,9 +188,9 @@ pub extern "C" fn hbx_ball(
     measured: &mut u32,
 ) -> u32
     ensures meets { AskMeets (Query.Ball (panel_colour_of red green blue) radius)
-        listing.old (tables_lent samples octants)
+        listing.old (tables_read samples octants)
         (list_left result listed.new entered.new measured.new listing.new) }
-    ensures bounds { Bounds listing.old (tables_lent samples octants)
+    ensures bounds { Bounds listing.old (tables_read samples octants)
         (list_left result listed.new entered.new measured.new listing.new) }
 {
     let centre = PanelColour { red, green, blue };
@@ -216,9 +216,9 @@ pub extern "C" fn hbx_box(
 ) -> u32
     ensures meets { AskMeets
         (Query.Box (panel_colour_of low_red low_green low_blue) (panel_colour_of high_red high_green high_blue))
-        listing.old (tables_lent samples octants)
+        listing.old (tables_read samples octants)
         (list_left result listed.new entered.new measured.new listing.new) }
-    ensures bounds { Bounds listing.old (tables_lent samples octants)
+    ensures bounds { Bounds listing.old (tables_read samples octants)
         (list_left result listed.new entered.new measured.new listing.new) }
 {
     let low = PanelColour {
@@ -268,9 +268,9 @@ pub extern "C" fn hbx_near(
     distance: &mut u64,
 ) -> u32
     ensures meets { (listing : List ℕ) → AskMeets (Query.Nearest (panel_colour_of red green blue) radius)
-        listing (tables_lent samples octants)
+        listing (tables_read samples octants)
         (near_left result found.new tag.new distance.new listing) }
-    ensures bounds { (listing : List ℕ) → Bounds listing (tables_lent samples octants)
+    ensures bounds { (listing : List ℕ) → Bounds listing (tables_read samples octants)
         (near_left result found.new tag.new distance.new listing) }
     ensures bit { found.new ≤ 1 }
 {
@@ -282,7 +282,7 @@ pub extern "C" fn hbx_near(
 // Whether the tables are those of some set.
 #[unsafe(no_mangle)]
 pub extern "C" fn hbx_check(samples: &[u32], octants: &[u32]) -> u32
-    ensures meets { CheckMeets (tables_lent samples octants) (is_yes result) }
+    ensures meets { CheckMeets (tables_read samples octants) (is_yes result) }
     ensures bit { result ≤ 1 }
 {
     yes_or_no(octree::tables::check(samples, octants))

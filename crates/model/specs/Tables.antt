@@ -1,7 +1,7 @@
 -- Every word of both tables (document 01, "The tables"), for a layout, a sample set and the two lengths.
 use Rattle.std.specs.Prelude.{ℕ, zero, suc, ◌+◌, true, false, List, [], ◌∷◌, ◌++◌, map, eqb, length}
 use denote.Triple.Both.{Both}
-use Rattle.std.specs.Borrow.{Bor}
+use Rattle.std.specs.Borrow.{Bor, MutBor}
 use Rattle.colour.specs.declared.Settings.{Settings}
 use Rattle.colour.specs.Colour.{code_in}
 use Rattle.colour.specs.Octant.{depths, children}
@@ -98,11 +98,15 @@ abbrev pub pair : List ℕ → List ℕ → Tables
 pair s o = record { samples = s; octants = o }
 
 -- Both tables of a call, by the slices that it is lent: as they are lent, and as it leaves them.
-abbrev pub tables_lent : {A B : Type 0} → Both (Bor (List ℕ)) A → Both (Bor (List ℕ)) B → Tables
+abbrev pub tables_lent : {A B : Type 0} → Both (MutBor (List ℕ)) A → Both (MutBor (List ℕ)) B → Tables
 tables_lent samples octants = pair samples.entry.now octants.entry.now
 
-abbrev pub tables_left : {A B : Type 0} → Both A (Bor (List ℕ)) → Both B (Bor (List ℕ)) → Tables
+abbrev pub tables_left : {A B : Type 0} → Both A (MutBor (List ℕ)) → Both B (MutBor (List ℕ)) → Tables
 tables_left samples octants = pair samples.exit.now octants.exit.now
+
+-- Both tables of a call that only reads them.
+abbrev pub tables_read : {A B : Type 0} → Both (Bor (List ℕ)) A → Both (Bor (List ℕ)) B → Tables
+tables_read samples octants = pair samples.entry.now octants.entry.now
 
 -- The tables of a set, at the two lengths. Every word not named is 0.
 unfoldable pub tables_for : Layout → SampleSet → ℕ → ℕ → Tables

@@ -3,7 +3,7 @@ ghost use Rattle.std.specs.Prelude.{◌≤◌, ◌<◌, true, ◌↔◌, ◌≡�
 ghost use Rattle.colour.specs.Octant.{depths};
 ghost use Rattle.model.specs.SampleSet.{octants_of};
 ghost use Rattle.model.specs.Layout.{current, sample_header, octant_header, octant_rows};
-ghost use Rattle.model.specs.Tables.{tables_lent, tables_left, tables_for};
+ghost use Rattle.model.specs.Tables.{tables_left, tables_read, tables_for};
 ghost use Rattle.model.specs.Meets.{CheckMeets};
 ghost use Rattle.words.specs.Rows.{count_in, settings_in, first_samples, set_of};
 ghost use Rattle.order.specs.Entries.{view};
@@ -169,7 +169,7 @@ fn hold(
 
 // The checking call: whether the tables are those of some set. It reads the set off the sample table and compares every word.
 pub fn check(samples: &[u32], octants: &[u32]) -> bool
-    ensures { CheckMeets (tables_lent samples octants) result }
+    ensures { CheckMeets (tables_read samples octants) result }
 {
     if !long_enough(samples.len(), octants.len()) {
         return false;

@@ -1,6 +1,6 @@
 // Ball, box and nearest, by the one entry that takes a query apart.
 ghost use Rattle.std.specs.Prelude.{true, false, List, ◌≡◌, ℕ};
-ghost use Rattle.model.specs.Tables.{tables_lent};
+ghost use Rattle.model.specs.Tables.{tables_read};
 ghost use Rattle.model.specs.Meets.{lists};
 ghost use Rattle.query.specs.Answers.{reply_answer, of_kind, Bounds, AskMeets};
 
@@ -15,8 +15,8 @@ use words::layout::long_enough;
 
 // The query entry: an exported call. Questions 1 and 9, and then the listing or the search. A nearest query leaves the listing as it is.
 pub fn ask(samples: &[u32], octants: &[u32], query: Query, listing: &mut [u32]) -> Reply
-    ensures meets { AskMeets query listing.old (tables_lent samples octants) (reply_answer result listing.new) }
-    ensures bounds { Bounds listing.old (tables_lent samples octants) (reply_answer result listing.new) }
+    ensures meets { AskMeets query listing.old (tables_read samples octants) (reply_answer result listing.new) }
+    ensures bounds { Bounds listing.old (tables_read samples octants) (reply_answer result listing.new) }
     ensures kind { of_kind (lists query) result ≡ true }
 {
     if !long_enough(samples.len(), octants.len()) {
@@ -43,8 +43,8 @@ pub fn ball(
     listing: &mut [u32],
 ) -> Reply
     ensures meets { AskMeets
-        (Query.Ball centre radius) listing.old (tables_lent samples octants) (reply_answer result listing.new) }
-    ensures bounds { Bounds listing.old (tables_lent samples octants) (reply_answer result listing.new) }
+        (Query.Ball centre radius) listing.old (tables_read samples octants) (reply_answer result listing.new) }
+    ensures bounds { Bounds listing.old (tables_read samples octants) (reply_answer result listing.new) }
     ensures kind { of_kind true result ≡ true }
 {
     ask(samples, octants, Query::Ball(centre, radius), listing)
@@ -59,8 +59,8 @@ pub fn boxed(
     listing: &mut [u32],
 ) -> Reply
     ensures meets { AskMeets
-        (Query.Box low high) listing.old (tables_lent samples octants) (reply_answer result listing.new) }
-    ensures bounds { Bounds listing.old (tables_lent samples octants) (reply_answer result listing.new) }
+        (Query.Box low high) listing.old (tables_read samples octants) (reply_answer result listing.new) }
+    ensures bounds { Bounds listing.old (tables_read samples octants) (reply_answer result listing.new) }
     ensures kind { of_kind true result ≡ true }
 {
     ask(samples, octants, Query::Box(low, high), listing)
@@ -69,8 +69,8 @@ pub fn boxed(
 // Nearest: an exported call. It uses no listing, so it promises its answer with any; the word that it lends the entry stays as it is.
 pub fn nearest(samples: &[u32], octants: &[u32], centre: PanelColour, radius: f32) -> Reply
     ensures meets { (listing : List ℕ) → AskMeets
-        (Query.Nearest centre radius) listing (tables_lent samples octants) (reply_answer result listing) }
-    ensures bounds { (listing : List ℕ) → Bounds listing (tables_lent samples octants) (reply_answer result listing) }
+        (Query.Nearest centre radius) listing (tables_read samples octants) (reply_answer result listing) }
+    ensures bounds { (listing : List ℕ) → Bounds listing (tables_read samples octants) (reply_answer result listing) }
     ensures kind { of_kind false result ≡ true }
 {
     let mut word = [0u32; 1];

@@ -1,6 +1,6 @@
 // What walklist prints for what stands on its standard input.
 ghost use Rattle.std.specs.Prelude.{◌≤◌, ◌≡◌, length};
-ghost use Rattle.model.specs.Tables.{pair, tables_lent, tables_left};
+ghost use Rattle.model.specs.Tables.{pair, tables_read, tables_left};
 ghost use Rattle.model.specs.Walklist.{walklist_prints};
 ghost use Rattle.tag_list.specs.Printed.{Printed, OrderPrinted, Fits, SheetLoaded};
 
@@ -41,7 +41,7 @@ fn grey(code: u32) -> Colour
 // Writes the tags of the set in sound tables, in the order (the paper's walk). A box of all colours lists every sample.
 fn put_order(samples: &[u32], octants: &[u32], text: &mut [u8]) -> usize
     requires { (Fits (pair samples.now octants.now)) × (5632 ≤ length text.old) }
-    ensures { OrderPrinted (tables_lent samples octants) text.old text.new result }
+    ensures { OrderPrinted (tables_read samples octants) text.old text.new result }
 {
     let mut tags = [0u32; 512];
     match list(

@@ -1,0 +1,40 @@
+-- `tables::samples_are`: next words, then the zeros after the rows.
+use mathlib.Core.Bool.{not}
+use mathlib.Core.Path.{ap, refl}
+use native.Mathlib.Omega.{arith}
+use borrow.Author.Rules.{rules}
+use borrow.Author.Tests.{not-false}
+use Rattle.words.proofs.Laws.Layout.Places.{samples_end}
+use Rattle.octree.proofs.Laws.Tables.Samples.{nexts_other, rest_tells}
+use Rattle.octree.proofs.tables.samples_are.Goals as goal
+
+pub returns-then-not-all_are : goal.returns-then-not-all_are
+returns-then-not-all_are c =
+    let p = c.requires in
+    nexts_other _ _ _ p.0 p.1.few p.2 c.all_are.result (ap not c.if-not-all_are.true) c.all_are.ensures
+
+pub sample_start-from-requires : goal.sample_start-from-requires
+sample_start-from-requires c =
+    let p = c.requires in
+    (samples_end _ _ _ p.0 p.1.few refl).few
+
+pub offset_bounds-samples-from : goal.offset_bounds-samples-from
+offset_bounds-samples-from c =
+    let p = c.requires in
+    omega (arith, (samples_end _ _ _ p.0 p.1.few c.sample_start-from.ensures).small)
+
+pub slice_bounds-are_zero-count : goal.slice_bounds-are_zero-count
+slice_bounds-are_zero-count c =
+    let p = c.requires in
+    (samples_end _ _ _ p.0 p.1.few c.sample_start-from.ensures).within
+
+pub slice_bounds-are_zero-start : goal.slice_bounds-are_zero-start
+slice_bounds-are_zero-start c =
+    let p = c.requires in
+    (samples_end _ _ _ p.0 p.1.few c.sample_start-from.ensures).within
+
+pub returns : goal.returns
+returns c =
+    let p = c.requires in
+    rest_tells _ _ _ p.0 p.1.few p.2 _ c.sample_start-from.ensures (c.all_are.ensures.0 c.if-not-all_are.false) c.are_zero.result
+    c.are_zero.ensures

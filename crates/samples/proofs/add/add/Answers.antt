@@ -1,0 +1,38 @@
+-- `add::add`: questions 1, 2 and 4, then what sound tables tell.
+use mathlib.Core.Bool.{true≢false}
+use mathlib.Core.Path.{refl, sym, ◌∙◌}
+use borrow.Author.Rules.{rules}
+use borrow.Author.Tests.{not-true, not-false}
+use Rattle.model.specs.Sound.{long_enough}
+use Rattle.model.specs.Machine.{lent}
+use Rattle.model.specs.Meets.{Meets}
+use Rattle.samples.specs.Answers.{changed_answer}
+use Rattle.samples.proofs.Laws.Added.{codes_refused}
+use Rattle.samples.proofs.Laws.Meets.{short_refused, unsound_refused, sound_follows}
+use Rattle.samples.proofs.add.add.Goals as goal
+
+pub returns-then-not-long_enough : goal.returns-then-not-long_enough
+unfolding Meets lent changed_answer long_enough
+returns-then-not-long_enough c =
+    short_refused _ _ _ (sym c.long_enough.ensures ∙ c.if-not-long_enough.true) refl
+
+pub returns-then-not-check : goal.returns-then-not-check
+unfolding Meets lent changed_answer long_enough
+returns-then-not-check c =
+    unsound_refused _ _ _ (sym c.long_enough.ensures ∙ c.if-not-long_enough.false)
+    (λ s. true≢false (sym (c.check.ensures.complete s) ∙ c.if-not-check.true)) refl
+
+pub returns-then-not-codes_fit : goal.returns-then-not-codes_fit
+unfolding Meets
+returns-then-not-codes_fit c =
+    sound_follows _ _ _ _ (c.check.ensures.sound c.if-not-check.false)
+    (codes_refused c.args.samples.now c.args.octants.now c.args.s (sym c.codes_fit.ensures ∙ c.if-not-codes_fit.true))
+
+pub add_coded-requires : goal.add_coded-requires
+add_coded-requires c =
+    (c.check.ensures.sound c.if-not-check.false, sym c.codes_fit.ensures ∙ c.if-not-codes_fit.false)
+
+pub returns : goal.returns
+unfolding Meets
+returns c =
+    sound_follows _ _ _ _ (c.check.ensures.sound c.if-not-check.false) c.add_coded.ensures

@@ -1,0 +1,42 @@
+-- `add::add_in_row`: the sample in its row, both tables rebuilt, or the row emptied again.
+use mathlib.Core.Path.{ap}
+use native.Mathlib.Omega.{arith}
+use lib.ListN.{length}
+use borrow.Author.Rules.{rules}
+use Rattle.model.specs.Layout.{current, sample_rows}
+use Rattle.words.proofs.Laws.Layout.Places.{rows_few}
+use Rattle.samples.specs.Answers.{changed_number}
+use Rattle.samples.proofs.Laws.Meets.{changed_refused}
+use Rattle.samples.proofs.Laws.Added.{sample_added, octants_refused}
+use Rattle.samples.proofs.Laws.Shown.{headers_there, space_for}
+use Rattle.samples.proofs.add.add_in_row.Goals as goal
+
+pub settings-settings-requires : goal.settings-settings-requires
+settings-settings-requires c =
+    (headers_there _ _ c.requires.sound).0
+
+pub put_sample-requires : goal.put_sample-requires
+put_sample-requires c =
+    c.requires.row
+
+pub overflow_add-n : goal.overflow_add-n
+overflow_add-n c =
+    omega (arith, c.requires.row, rows_few (length c.args.samples.now))
+
+pub rebuild-requires : goal.rebuild-requires
+rebuild-requires c =
+    space_for _ _ c.requires.sound _ _ c.put_sample.auto.samples (omega (arith, c.requires.row))
+
+pub put_sample-requires-in_default : goal.put_sample-requires-in_default
+put_sample-requires-in_default c =
+    omega (arith, c.requires.row, ap (sample_rows current) c.rebuild.auto.samples, ap (sample_rows current) c.put_sample.auto.samples)
+
+pub returns-in_default : goal.returns-in_default
+returns-in_default c =
+    octants_refused c.args.s c.args.n c.args.samples.now c.args.octants.now c.requires _ c.settings-settings.ensures _ c.put_sample.ensures _ _ _
+    c.rebuild.ensures _ c.put_sample-in_default.ensures (changed_refused _ _ c.in_default.is)
+
+pub returns : goal.returns
+returns c =
+    sample_added c.args.s c.args.n c.args.samples.now c.args.octants.now c.requires _ c.settings-settings.ensures _ c.put_sample.ensures _ _ _
+    c.rebuild.ensures (ap changed_number c.in-Done.is)
