@@ -5,7 +5,7 @@ usage: tools/port/names.py [--docs]     at the top of the repository, after port
 
 `codesFit` becomes `codes_fit`, `below-means` becomes `below_means`, and a definition that gives a type, as `distinct`, becomes `Distinct`. What is declared in
 specs/ and proofs/ is renamed, in .antt and .rt files and in must-fail edits; with --docs, in the backticks of the papers too. Names of src/ are
-not touched, nor what a Proof.antt declares for itself, nor strings. If two names would fall together in a file, nothing is written.
+not touched, nor what a proof of a function declares, nor strings. If two names would fall together in a file, nothing is written.
 A second run changes nothing.
 """
 import collections
@@ -13,7 +13,7 @@ import glob
 import re
 import sys
 
-DECLARED = re.compile(r"^( {0,4})(?:(?:unfoldable|abbrev|pub) )*([^\s:(){}«»]+) :(?: |$)(.*)")
+DECLARED = re.compile(r"^( {0,8})(?:(?:unfoldable|abbrev|pub) )*([^\s:(){}«»]+) :(?: |$)(.*)")
 TOKEN = re.compile(r"[^\s(){}.;,@\"«»\[\]\\`]+")
 # A definition that gives a type, in lower case. Its new name is a type's.
 TYPES = {"codesInRange": "CodesInRange", "distinct": "Distinct"}
@@ -36,7 +36,7 @@ def declared():
     """The names, and those of them that are labels of records."""
     names, labels = set(), set()
     for path in sources():
-        if path.endswith("/Proof.antt"):
+        if path.endswith("/Proof.antt") or re.search(r"(?m)^use .*\.(Goals|Given) as goal$", read(path)):
             continue
         record = False
         for line in read(path).split("\n"):

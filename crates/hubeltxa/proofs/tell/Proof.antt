@@ -17,7 +17,7 @@ returns c =
       number_is = λ l. ap (λ (a : Answer). a.number) (told l);
       listed_is = λ l. ap (λ (a : Answer). a.listed) (told l);
       entered_is = λ l. ap (λ (a : Answer). a.entered) (told l);
-      measured_is = λ l. ap (λ (a : Answer). a.decreases) (told l);
+      measured_is = λ l. ap (λ (a : Answer). a.measured) (told l);
     }
 
 pub tell-spec : {M : Type 1} → statement M

@@ -37,12 +37,12 @@ module _ (x : Settings) (n : ℕ) (ws os : List ℕ) where
     says_3 out = yes_to 1 (long_enough current t) _ x n t 3 t long (no_to 3 (settings_good x) _ x n t (λ e. omega (arith, e)) out)
 
     module _ (good : settings_good x ≡ true) where
-      after-3 : (r : ℕ) (t' : Tables) → Rebuilt (asks 6 rowed ∷ codes_asked x n t) x n t r t' → RebuildMeets x n t r t'
+      after_3 : (r : ℕ) (t' : Tables) → Rebuilt (asks 6 rowed ∷ codes_asked x n t) x n t r t' → RebuildMeets x n t r t'
       unfolding rebuild_questions
-      after-3 r t' told = yes_to 1 (long_enough current t) _ x n t r t' long (yes_to 3 (settings_good x) _ x n t r t' good told)
+      after_3 r t' told = yes_to 1 (long_enough current t) _ x n t r t' long (yes_to 3 (settings_good x) _ x n t r t' good told)
 
-      pub says-6 : sample_rows current (length ws) < n → RebuildMeets x n t 6 t
-      says-6 over = after-3 6 t (no_to 6 rowed (codes_asked x n t) x n t (λ e. omega (arith, e)) (lt-leb n (sample_rows current (length ws)) over))
+      pub says_6 : sample_rows current (length ws) < n → RebuildMeets x n t 6 t
+      says_6 over = after_3 6 t (no_to 6 rowed (codes_asked x n t) x n t (λ e. omega (arith, e)) (lt-leb n (sample_rows current (length ws)) over))
 
       module _ (few : n ≤ sample_rows current (length ws)) where
         pub spaced : Space ws os n 4096
@@ -55,5 +55,5 @@ module _ (x : Settings) (n : ℕ) (ws os : List ℕ) where
               space = omega (arith, few, rows_few (length ws));
             }
 
-        pub then-told : (r : ℕ) (t' : Tables) → Rebuilt (codes_asked x n t) x n t r t' → RebuildMeets x n t r t'
-        then-told r t' told = after-3 r t' (yes_to 6 rowed (codes_asked x n t) x n t r t' (le-leb n (sample_rows current (length ws)) few) told)
+        pub then_told : (r : ℕ) (t' : Tables) → Rebuilt (codes_asked x n t) x n t r t' → RebuildMeets x n t r t'
+        then_told r t' told = after_3 r t' (yes_to 6 rowed (codes_asked x n t) x n t r t' (le-leb n (sample_rows current (length ws)) few) told)

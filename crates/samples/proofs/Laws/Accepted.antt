@@ -31,18 +31,18 @@ module _ (x : Settings) (ws : List ℕ) (octant_length n : ℕ) where
 
     module _ (es after : List ℕ) (as_long : length es ≡ m) (few : n ≤ sample_rows current (length ws)) (entries : es ≡ entries_of (samples_from current ws 0 m))
         (r : Fit) (told : Judged x.bucket es after (length ws) octant_length r) where
-      few-entries : length es ≤ sample_rows current (length ws)
-      few-entries = omega (arith, as_long, kept, few)
+      few_entries : length es ≤ sample_rows current (length ws)
+      few_entries = omega (arith, as_long, kept, few)
 
-      own-entries : es ≡ entries_of (samples_from current ws 0 (length es))
-      own-entries = entries ∙ ap (λ (k : ℕ). entries_of (samples_from current ws 0 k)) (sym as_long)
+      own_entries : es ≡ entries_of (samples_from current ws 0 (length es))
+      own_entries = entries ∙ ap (λ (k : ℕ). entries_of (samples_from current ws 0 k)) (sym as_long)
 
       abbrev Room : ℕ → Type 0
       Room k = octants (set_of current ws x k) ≤ octant_rows current octant_length
 
-      pub octants-over : (fit_number r ≡ 0 → ⊥) → (false ≡ true) ↔ Acceptable x ws octant_length n
-      octants-over ne =
-          says_no (λ a. ne (room_fits x ws es few-entries own-entries after octant_length r told (subst Room (sym (as_long ∙ kept)) a.octants_fit)))
+      pub octants_over : (fit_number r ≡ 0 → ⊥) → (false ≡ true) ↔ Acceptable x ws octant_length n
+      octants_over ne =
+          says_no (λ a. ne (room_fits x ws es few_entries own_entries after octant_length r told (subst Room (sym (as_long ∙ kept)) a.octants_fit)))
 
       pub all_accepted : Distinct (samples_from current ws 0 n) → CodesInRange (samples_from current ws 0 m) → fit_number r ≡ 0
           → (true ≡ true) ↔ Acceptable x ws octant_length n
@@ -50,7 +50,7 @@ module _ (x : Settings) (ws : List ℕ) (octant_length n : ℕ) where
           says_yes (record {
             tags_distinct = d;
             in_range = subst (λ (k : ℕ). CodesInRange (samples_from current ws 0 k)) kept i;
-            octants_fit = subst Room (as_long ∙ kept) (fits_room x ws es few-entries own-entries after octant_length r told e);
+            octants_fit = subst Room (as_long ∙ kept) (fits_room x ws es few_entries own_entries after octant_length r told e);
           })
 
   -- The same for the places that are lent for n entries, k of them.

@@ -63,27 +63,27 @@ module _ (m : Machine) (s : Sample) where
       abbrev rows : ℕ
       rows = sample_rows current m.sample_length
 
-      after-5 : number ≡ first_no (fit_questions m (with_samples m.set more))
+      after_5 : number ≡ first_no (fit_questions m (with_samples m.set more))
       unfolding new_questions added
-      after-5 = after_4 ∙ first_yes 5 (not (has_tag s.tag m.set.samples)) _ (ap not new)
+      after_5 = after_4 ∙ first_yes 5 (not (has_tag s.tag m.set.samples)) _ (ap not new)
 
-      says-6 : rows ≤ length m.set.samples → number ≡ 6
+      says_6 : rows ≤ length m.set.samples → number ≡ 6
       unfolding fit_questions with_samples
-      says-6 full = after-5 ∙ first_no_lem 6 (leb (length more) rows) _ (row_unused m.set.samples s rows ∙ le-ltb (length m.set.samples) rows full)
+      says_6 full = after_5 ∙ first_no_lem 6 (leb (length more) rows) _ (row_unused m.set.samples s rows ∙ le-ltb (length m.set.samples) rows full)
 
       module _ (row : length m.set.samples < rows) where
         abbrev fit : ℕ → ℕ → ℕ
         fit n room = first_no (asks 7 (leb n room) ∷ [])
 
-        after-6 : number ≡ fit (octants (with_samples m.set more)) (octant_rows current m.octant_length)
+        after_6 : number ≡ fit (octants (with_samples m.set more)) (octant_rows current m.octant_length)
         unfolding fit_questions with_samples
-        after-6 = after-5 ∙ first_yes 6 (leb (length more) rows) _ (row_unused m.set.samples s rows ∙ lt-ltb (length m.set.samples) rows row)
+        after_6 = after_5 ∙ first_yes 6 (leb (length more) rows) _ (row_unused m.set.samples s rows ∙ lt-ltb (length m.set.samples) rows row)
 
-        says-7 : octant_rows current m.octant_length < octants (with_samples m.set more) → number ≡ 7
-        says-7 over = after-6 ∙ first_no_lem 7 _ [] (lt-leb _ _ over)
+        says_7 : octant_rows current m.octant_length < octants (with_samples m.set more) → number ≡ 7
+        says_7 over = after_6 ∙ first_no_lem 7 _ [] (lt-leb _ _ over)
 
-        says-0 : octants (with_samples m.set more) ≤ octant_rows current m.octant_length → number ≡ 0
-        says-0 room = after-6 ∙ alone_yes 7 _ (le-leb _ _ room)
+        says_0 : octants (with_samples m.set more) ≤ octant_rows current m.octant_length → number ≡ 0
+        says_0 room = after_6 ∙ alone_yes 7 _ (le-leb _ _ room)
 
 -- Refusals before the sample is put in its row: nothing has changed.
 module _ (ws os : List ℕ) (s : Sample) where
@@ -104,18 +104,18 @@ module _ (ws os : List ℕ) (s : Sample) where
     tag_refused h m shows = refused_follows m (Add s) t 5 (says_5 m s codes (known m shows ∙ lt-ltb row n h)) (λ z. omega (arith, z)) shows.words
 
     module _ (new : n ≤ row) where
-      pub row-refused : sample_rows current (length ws) ≤ n → FollowsAll (Add s) t (changed_answer (C.Refused R.NoRow)) t
+      pub row_refused : sample_rows current (length ws) ≤ n → FollowsAll (Add s) t (changed_answer (C.Refused R.NoRow)) t
       unfolding changed_answer
-      row-refused full m shows =
+      row_refused full m shows =
           let many : length m.set.samples ≡ n =
           ap length (sym (said ws os n counted m shows)) ∙ samples_length ws n 0 in
           refused_follows m (Add s) t 6
-          (says-6 m s codes (known m shows ∙ le-ltb row n new) (omega (arith, many, full, ap (sample_rows current) (sample_length_lem ws os m shows))))
+          (says_6 m s codes (known m shows ∙ le-ltb row n new) (omega (arith, many, full, ap (sample_rows current) (sample_length_lem ws os m shows))))
           (λ z. omega (arith, z)) shows.words
 
       -- Else it is left to put it in the row after the others.
-      pub now-adding : Sound current t → n < sample_rows current (length ws) → Adding s n ws os
-      now-adding sound left =
+      pub now_adding : Sound current t → n < sample_rows current (length ws) → Adding s n ws os
+      now_adding sound left =
           record {
             sound = sound;
             counted = sym counted;
@@ -177,7 +177,7 @@ module _ (s : Sample) (n : ℕ) (ws os : List ℕ) (h : Adding s n ws os) (x : S
     unfolding changed_answer
     sample_added done m shows =
         add_accepted m s (pair ws' os')
-        (says-0 m s h.codes (new_tag m shows) (row_left m shows)
+        (says_0 m s h.codes (new_tag m shows) (row_left m shows)
         (omega (arith, same_count m shows, same_rooms m shows, rebuilt_room x (n + 1) put os r (pair ws' os') (in_range_now m shows) rebuilt done)))
         (rebuilt.accepted done
         ∙ rows_tables ws os m shows x settings put (n + 1) (more m s) (now_more m shows) (put_length ws n s))
@@ -188,7 +188,7 @@ module _ (s : Sample) (n : ℕ) (ws os : List ℕ) (h : Adding s n ws os) (x : S
     unfolding changed_answer
     octants_refused vs emptied ne m shows =
         refused_follows m (Add s) (pair vs os') 7
-        (says-7 m s h.codes (new_tag m shows) (row_left m shows)
+        (says_7 m s h.codes (new_tag m shows) (row_left m shows)
         (omega (arith, same_count m shows, same_rooms m shows, rebuilt_over x (n + 1) put os r (pair ws' os') (in_range_now m shows) rebuilt ne)))
         (λ z. omega (arith, z))
         (ap (λ (l : List ℕ). pair l os') emptied

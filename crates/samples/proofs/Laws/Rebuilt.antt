@@ -78,13 +78,13 @@ module _ (x : Settings) (ws os es : List ℕ) (scratch : ℕ) (h : Entered ws os
         go false e = e
 
     module _ (n : ℕ) (fits : r ≡ F.Fits n) (as_long : length after ≡ length es) where
-      there-is-room : octants (set_of current ws x (length es)) ≤ octant_rows current (length os)
-      there-is-room = fits_room x ws es h.spaced.few h.entries after (length os) r told (ap fit_number fits)
+      there_is_room : octants (set_of current ws x (length es)) ≤ octant_rows current (length os)
+      there_is_room = fits_room x ws es h.spaced.few h.entries after (length os) r told (ap fit_number fits)
 
       -- One that fits is written.
-      pub fit-to-write : Writable x ws (length os) after
+      pub fit_to_write : Writable x ws (length os) after
       unfolding fit_octants
-      fit-to-write =
+      fit_to_write =
           record {
             sample_words_is = h.spaced.sample_words_is;
             octant_words_is = h.spaced.octant_words_is;
@@ -92,15 +92,15 @@ module _ (x : Settings) (ws os es : List ℕ) (scratch : ℕ) (h : Entered ws os
             order =
                 told.order n (ap fit_octants fits)
                 ∙ ap (λ (l : List ℕ). order_of x.bucket depths (view l)) (h.entries ∙ ap (λ (m : ℕ). entries_of (samples_from current ws 0 m)) (sym as_long));
-            room = subst (λ (m : ℕ). octants (set_of current ws x m) ≤ octant_rows current (length os)) (sym as_long) there-is-room;
+            room = subst (λ (m : ℕ). octants (set_of current ws x m) ≤ octant_rows current (length os)) (sym as_long) there_is_room;
           }
 
-      pub with-room : (t' : Tables) → t' ≡ tables_for current (set_of current ws x (length after)) (length ws) (length os)
+      pub with_room : (t' : Tables) → t' ≡ tables_for current (set_of current ws x (length after)) (length ws) (length os)
           → Rebuilt (room_asked x (length es) t₀) x (length es) t₀ 0 t'
       unfolding room_asked
-      with-room t' e =
+      with_room t' e =
           record {
-            number = sym (alone_yes 7 room (le-leb _ _ there-is-room));
+            number = sym (alone_yes 7 room (le-leb _ _ there_is_room));
             refused = λ z. absurd (z refl);
             accepted = λ _. e ∙ ap (λ (m : ℕ). tables_for current (set_of current ws x m) (length ws) (length os)) as_long;
           }

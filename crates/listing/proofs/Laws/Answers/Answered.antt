@@ -28,7 +28,7 @@ pub pass_listing : (t : Tables) (m : Machine) → Shows current m t → (R : Reg
 unfolding pass_answer counts_of
 pass_listing t m shows R l =
     let p = pass_agrees t.samples t.octants m shows R in
-    let same : counts_of (pass_of t.samples t.octants R) ≡ counts R m.set = λ i. record { entered = p.entered i; measured = p.decreases i } in
+    let same : counts_of (pass_of t.samples t.octants R) ≡ counts R m.set = λ i. record { entered = p.entered i; measured = p.measured i } in
     ap₂ (λ (tags : List ℕ) (c : Counts). unless_refused (room_questions tags l) l (listing_answer tags c l)) p.tags same
 
 -- Question 13, both ways.

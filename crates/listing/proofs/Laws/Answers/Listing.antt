@@ -35,12 +35,12 @@ module _ {v : Visit} {words listing words' listing' : List ℕ} (fresh : words �
       ∙ sets-eq v.tags listing 0 (omega arith)
       ∙ ap (λ (n : ℕ). v.tags ++ drop n listing) (zero-add (length v.tags))
 
-  pub listed_all : (n e m : ℕ) → length v.tags ≤ length listing → n ≡ listed_in words' → e ≡ (tally_in words').entered → m ≡ (tally_in words').decreases
+  pub listed_all : (n e m : ℕ) → length v.tags ≤ length listing → n ≡ listed_in words' → e ≡ (tally_in words').entered → m ≡ (tally_in words').measured
       → listed_answer (L.All n e m) listing' ≡ pass_answer v listing
   unfolding listed_answer counts_of
   listed_all n e m h a b c =
       let entered : e ≡ v.after.entered = b ∙ ap (λ (t : Tally). t.entered) after in
-      let measured : m ≡ v.after.measured = c ∙ ap (λ (t : Tally). t.decreases) after in
+      let measured : m ≡ v.after.measured = c ∙ ap (λ (t : Tally). t.measured) after in
       let counts : record { entered = e; measured = m } ≡ counts_of v = λ i. record { entered = entered i; measured = measured i } in
       rw (pass_fits v listing h)
       (ap₂ (λ (k : ℕ) (x : Counts). list_answer 0 k x listing') (a ∙ counted_all) counts

@@ -91,17 +91,17 @@ module _ (ws os : List ℕ) (m : Machine) (shows : Shows current m (pair ws os))
               ap (tags_of ws R whole) (own_rows_lem ws os m shows st.stands)
               ∙ tags_said ws n R whole ys (all_order (Said ws n) b j xs (all_said ws os m shows st.stands.reached)) (takes_right whole e);
           entered = omega (arith, ap (λ (x : Counts). x.entered) c);
-          measured = measured-by whole (ap (λ (x : Counts). x.measured) c) size;
+          measured = measured_by whole (ap (λ (x : Counts). x.measured) c) size;
           past = omega arith;
           next = omega arith;
           visited = omega (arith, size);
         }
       where
-        measured-by : (whole : Bool) → (visit R b j low xs).measured ≡ elim whole [ true ↦ 0 | false ↦ length xs ]
+        measured_by : (whole : Bool) → (visit R b j low xs).measured ≡ elim whole [ true ↦ 0 | false ↦ length xs ]
             → length (own_rows ws os at t.visited) ≡ length xs
             → (visiting whole (length (own_rows ws os at t.visited)) (tally_entering at t)).measured ≡ t.measured + (visit R b j low xs).measured
-        measured-by true c d = omega (arith, c)
-        measured-by false c d = omega (arith, c, d)
+        measured_by true c d = omega (arith, c)
+        measured_by false c d = omega (arith, c, d)
 
     -- It is gone through sample by sample where it is inside or not split.
     pub ended_agrees : (inside R (2 ^ j) low ≡ false → splits b j xs ≡ false)

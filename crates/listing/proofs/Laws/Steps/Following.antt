@@ -73,9 +73,9 @@ module _ (ws : List ℕ) (R : Region) (whole : Bool) (first count start : ℕ) (
             few = omega arith;
           }
 
-      pub is-listed : {listing' : List ℕ} → takes ws R whole row ≡ true → listing' ≡ set listing end (sample_field current ws row Tag)
+      pub is_listed : {listing' : List ℕ} → takes ws R whole row ≡ true → listing' ≡ set listing end (sample_field current ws row Tag)
           → Following listing' row' (seen + 1) (end + 1)
-      is-listed {listing'} t put =
+      is_listed {listing'} t put =
           let e : tags_of ws R whole (ahead seen row) ≡ sample_field current ws row Tag ∷ tags_of ws R whole (ahead (seen + 1) row') =
           ap (tags_of ws R whole) step ∙ tags_hit ws R whole row (ahead (seen + 1) row') t in
           record {

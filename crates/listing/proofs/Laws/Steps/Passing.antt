@@ -62,18 +62,18 @@ module _ (ws os : List ℕ) (R : Region) (words : List ℕ) (fresh : words ≡ t
     root_barred e = pass_off (barred os R (2 ^ depths) black 0 no_tally (allowed_is ∙ e))
 
     module _ (o : Bool) (tells : o ≡ overlaps R root.side root.low) where
-      root-overlaps : overlaps R (2 ^ depths) black ≡ o
+      root_overlaps : overlaps R (2 ^ depths) black ≡ o
       unfolding root_cube side_at depths
-      root-overlaps = sym (tells ∙ ap (λ (c : Cube). overlaps R c.side c.low) is-root)
+      root_overlaps = sym (tells ∙ ap (λ (c : Cube). overlaps R c.side c.low) is-root)
 
-      pub root-apart : o ≡ false → {listing : List ℕ} → Visited (pass_of ws os R) words listing words listing
-      root-apart e = pass_off (apart_from os R (2 ^ depths) black 0 no_tally (root-overlaps ∙ e))
+      pub root_apart : o ≡ false → {listing : List ℕ} → Visited (pass_of ws os R) words listing words listing
+      root_apart e = pass_off (apart_from os R (2 ^ depths) black 0 no_tally (root_overlaps ∙ e))
 
       pub root_visited : r ≡ true → o ≡ true → {listing words' listing' : List ℕ}
           → Visited (visit_of ws os R (16 - root.depth) 0 root.low (tally_in words)) words listing words' listing'
           → Visited (pass_of ws os R) words listing words' listing'
       unfolding pass_of root_cube depths
       root_visited e f {listing} {words'} {listing'} d =
-          rw (let_in os R (2 ^ depths) black 0 no_tally (root-overlaps ∙ f) (allowed_is ∙ e), pass_of)
+          rw (let_in os R (2 ^ depths) black 0 no_tally (root_overlaps ∙ f) (allowed_is ∙ e), pass_of)
           (subst (λ (v : Visit). Visited v words listing words' listing')
           (ap₂ (λ (c : Cube) (t : Tally). visit_of ws os R (16 - c.depth) 0 c.low t) is-root said) d)

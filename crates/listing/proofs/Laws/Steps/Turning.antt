@@ -123,8 +123,8 @@ module _ (ws os : List ℕ) (R : Region) (j row : ℕ) (low : Colour) where
 
     -- The next one.
     module _ (some : mask ≡ 0 → ⊥) (k : ℕ) (least : k ≡ count_trailing_zeros 32 mask) where
-      pub is-first : First meets g.done 8 mask k
-      is-first = subst (First meets g.done 8 mask) (sym least) (mask_first meets g.done 8 mask (omega arith) g.left some)
+      pub is_first : First meets g.done 8 mask k
+      is_first = subst (First meets g.done 8 mask) (sym least) (mask_first meets g.done 8 mask (omega arith) g.left some)
 
       -- Whether it may be entered, as the function says.
       pub allowed_is : (row' limit : ℕ) (r : Bool) → row' ≡ at k → limit ≡ octant_limit current os
@@ -132,43 +132,43 @@ module _ (ws os : List ℕ) (R : Region) (j row : ℕ) (low : Colour) where
       allowed_is row' limit r e f told = sym (told ∙ ap₂ (λ (x y : ℕ). leb (tally_in words).next x && ltb x y) e f)
 
       up_to : visit_each turn k (tally_in words₀) ≡ visit_each turn g.done (tally_in words₀)
-      up_to = turns_skipped turn (tally_in words₀) g.done k is-first.least (λ i a b u. turn_apart i (is-first.skipped i a b) u)
+      up_to = turns_skipped turn (tally_in words₀) g.done k is_first.least (λ i a b u. turn_apart i (is_first.skipped i a b) u)
 
-      tally-so-far : tally_in words ≡ (visit_each turn g.done (tally_in words₀)).after
-      tally-so-far =
+      tally_so_far : tally_in words ≡ (visit_each turn g.done (tally_in words₀)).after
+      tally_so_far =
           let v : Visit = visit_each turn g.done (tally_in words₀) in
           ap tally_in g.visited.tally ∙ words_tally (listed_in words₀ + length v.tags) v.after
 
       -- It may not be entered.
-      pub turning-barred : (mask' : ℕ) → mask' ≡ mask - 2 ^ k → allowed k (tally_in words) ≡ false → Turning words₀ listing₀ mask' words listing
-      turning-barred mask' m e =
+      pub turning_barred : (mask' : ℕ) → mask' ≡ mask - 2 ^ k → allowed k (tally_in words) ≡ false → Turning words₀ listing₀ mask' words listing
+      turning_barred mask' m e =
           let v : Visit = visit_each turn k (tally_in words₀) in
           let same : visit_each turn (suc k) (tally_in words₀) ≡ visit_each turn g.done (tally_in words₀) =
           turn_more turn (tally_in words₀) k
-          ∙ then_nothing v (turn k) (turn_barred k v.after (ap (allowed k) (ap (λ (w : Visit). w.after) up_to ∙ sym tally-so-far) ∙ e))
+          ∙ then_nothing v (turn k) (turn_barred k v.after (ap (allowed k) (ap (λ (w : Visit). w.after) up_to ∙ sym tally_so_far) ∙ e))
           ∙ up_to in
           record {
             done = suc k;
-            few = is-first.below;
-            left = m ∙ is-first.rest;
+            few = is_first.below;
+            left = m ∙ is_first.rest;
             visited = subst (λ (w : Visit). Visited w words₀ listing₀ words listing) (sym same) g.visited;
           }
 
       -- It was visited.
-      pub turning-visited : (mask' : ℕ) {words' listing' : List ℕ} → mask' ≡ mask - 2 ^ k → allowed k (tally_in words) ≡ true
+      pub turning_visited : (mask' : ℕ) {words' listing' : List ℕ} → mask' ≡ mask - 2 ^ k → allowed k (tally_in words) ≡ true
           → Visited (visit_of ws os R j (at k) (child_low (2 ^ j) k low) (tally_in words)) words listing words' listing'
           → Turning words₀ listing₀ mask' words' listing'
-      turning-visited mask' {words'} {listing'} m e d =
+      turning_visited mask' {words'} {listing'} m e d =
           let v : Visit = visit_each turn g.done (tally_in words₀) in
           let own : Visited (turn k v.after) words listing words' listing' =
-          subst (λ (u : Tally). Visited (turn k u) words listing words' listing') tally-so-far
-          (subst (λ (w : Visit). Visited w words listing words' listing') (sym (turn_entered k (tally_in words) is-first.is e)) d) in
+          subst (λ (u : Tally). Visited (turn k u) words listing words' listing') tally_so_far
+          (subst (λ (w : Visit). Visited w words listing words' listing') (sym (turn_entered k (tally_in words) is_first.is e)) d) in
           let same : visit_each turn (suc k) (tally_in words₀) ≡ and_then v (turn k) =
           turn_more turn (tally_in words₀) k ∙ ap (λ (w : Visit). and_then w (turn k)) up_to in
           record {
             done = suc k;
-            few = is-first.below;
-            left = m ∙ is-first.rest;
+            few = is_first.below;
+            left = m ∙ is_first.rest;
             visited = subst (λ (w : Visit). Visited w words₀ listing₀ words' listing') (sym same) (visited_then (turn k) g.visited own);
           }
 

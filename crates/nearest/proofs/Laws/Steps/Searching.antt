@@ -103,7 +103,7 @@ deep ws os row cube e = omega (arith, ends_deep ws os (16 - cube.depth) row e)
 
 -- One turn, as the functions say it: the child, its word, how far it is, and whether it is entered.
 module _ (ws os : List ℕ) (c : Colour) (row : ℕ) (cube : Cube) (half : ℕ) (told : half ≡ side_at (suc cube.depth)) (m : ℕ) (u : Search)
-    (first limit : ℕ) (gaps : Gaps) (next d : ℕ) (r : Bool) (is-first : first ≡ closest_child c half cube.low) (is-limit : limit ≡ octant_limit current os)
+    (first limit : ℕ) (gaps : Gaps) (next d : ℕ) (r : Bool) (is_first : first ≡ closest_child c half cube.low) (is-limit : limit ≡ octant_limit current os)
     (are-gaps : gaps ≡ gaps_of c half cube.low) (is-next : next ≡ octant_field current os row (Child (bit_xor first m))) (is-far : d ≡ closest_by gaps (bit_xor first m))
     (is-reached : r ≡ ((ltb 0 next && ltb next limit) && (ltb u.entered limit && closer u.best d next))) where
   abbrev j : ℕ
@@ -117,7 +117,7 @@ module _ (ws os : List ℕ) (c : Colour) (row : ℕ) (cube : Cube) (half : ℕ) 
 
   child_is : turn_child c (2 ^ j) cube.low m ≡ k
   unfolding turn_child
-  child_is = sym (ap (λ (n : ℕ). bit_xor n m) (is-first ∙ ap (λ (s : ℕ). closest_child c s cube.low) side_is))
+  child_is = sym (ap (λ (n : ℕ). bit_xor n m) (is_first ∙ ap (λ (s : ℕ). closest_child c s cube.low) side_is))
 
   far_is : d ≡ distance c (closest c (2 ^ j) (child_low (2 ^ j) k cube.low))
   far_is =

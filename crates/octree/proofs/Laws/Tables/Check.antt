@@ -39,9 +39,9 @@ module _ (s : Settings) (n : ℕ) (ws os : List ℕ) where
         says_no (λ h. false≢true (sym (not-true q off) ∙ t (subst (λ (k : ℕ). CodesInRange (samples_from current ws 0 k)) (sym kept) h.in_range)))
 
     module _ (es : List ℕ) (as_long : length es ≡ m) where
-      pub now-listed : (scratch scratch' : ℕ) → Headed s ws os n scratch → scratch' ≡ scratch
+      pub now_listed : (scratch scratch' : ℕ) → Headed s ws os n scratch → scratch' ≡ scratch
           → es ≡ entries_of (samples_from current ws 0 m) → Listed s ws os es scratch'
-      now-listed scratch scratch' h e entries =
+      now_listed scratch scratch' h e entries =
           record {
             headed =
                 record {

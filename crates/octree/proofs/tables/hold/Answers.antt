@@ -3,7 +3,7 @@ use mathlib.Core.Bool.{not}
 use mathlib.Core.Path.{ap}
 use borrow.Author.Rules.{rules}
 use borrow.Author.Tests.{not-false}
-use Rattle.octree.proofs.Laws.Tables.Check.{twice, out_of_range, now-listed, set_tells}
+use Rattle.octree.proofs.Laws.Tables.Check.{twice, out_of_range, now_listed, set_tells}
 use Rattle.octree.proofs.tables.hold.Goals as goal
 
 pub returns-then-not-all_apart : goal.returns-then-not-all_apart
@@ -17,7 +17,7 @@ returns-then-not-fill c =
 pub same_tables-requires : goal.same_tables-requires
 same_tables-requires c =
     let filled = c.fill.ensures.entries c.if-not-fill.false in
-    now-listed _ _ _ _ _ c.all_apart.auto.tags c.fill.new.entries c.fill.auto.entries _ _ c.requires c.all_apart.auto.scratch filled
+    now_listed _ _ _ _ _ c.all_apart.auto.tags c.fill.new.entries c.fill.auto.entries _ _ c.requires c.all_apart.auto.scratch filled
 
 pub returns : goal.returns
 returns c =

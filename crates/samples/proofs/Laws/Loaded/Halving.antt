@@ -47,31 +47,31 @@ module _ {x : Settings} {ws : List ℕ} {octant_length : ℕ} where
       middle = good + (bad - good) / 2
 
       -- The middle is apart from both ends.
-      pub after-good : good + 1 < bad → good < middle
-      after-good d = omega arith
+      pub after_good : good + 1 < bad → good < middle
+      after_good d = omega arith
 
-      pub before-bad : good + 1 < bad → middle < bad
-      before-bad d = omega arith
+      pub before_bad : good + 1 < bad → middle < bad
+      before_bad d = omega arith
 
       -- It is the next end of the one kind or of the other.
-      pub upper-half : good + 1 < bad → Acceptable x ws octant_length middle → Between x ws octant_length low high middle bad
-      upper-half d a =
+      pub upper_half : good + 1 < bad → Acceptable x ws octant_length middle → Between x ws octant_length low high middle bad
+      upper_half d a =
           record {
-            least = omega (arith, after-good d, h.least);
-            apart = before-bad d;
+            least = omega (arith, after_good d, h.least);
+            apart = before_bad d;
             most = h.most;
             rows = h.rows;
             accepted = a;
             rejected = h.rejected;
           }
 
-      pub lower-half : good + 1 < bad → (r : Bool) → ((r ≡ true) ↔ Acceptable x ws octant_length middle) → r ≡ false
+      pub lower_half : good + 1 < bad → (r : Bool) → ((r ≡ true) ↔ Acceptable x ws octant_length middle) → r ≡ false
           → Between x ws octant_length low high good middle
-      lower-half d r told e =
+      lower_half d r told e =
           record {
             least = h.least;
-            apart = after-good d;
-            most = omega (arith, before-bad d, h.most);
+            apart = after_good d;
+            most = omega (arith, before_bad d, h.most);
             rows = h.rows;
             accepted = h.accepted;
             rejected = rejects r told e;

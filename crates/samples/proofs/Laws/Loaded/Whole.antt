@@ -135,24 +135,24 @@ module _ (ws os sheet : List ℕ) (lines : ℕ) (x : Settings) (n put : ℕ) (ws
       abbrev m₀ : Machine
       m₀ = sound.machine
 
-      high-there : n + put ≤ sample_rows current (length ws')
-      high-there =
+      high_there : n + put ≤ sample_rows current (length ws')
+      high_there =
           omega (arith, put_rows n ws sheet lines put ws' told (rows_there ws os sound n counted), ap (sample_rows current) long)
 
-      pub asks-longest : (n ≤ n + put) × (n + put ≤ sample_rows current (length ws')) × Acceptable x ws' (length os) n
-      asks-longest = (omega arith, high-there, still_acceptable m₀ sound.shows)
+      pub asks_longest : (n ≤ n + put) × (n + put ≤ sample_rows current (length ws')) × Acceptable x ws' (length os) n
+      asks_longest = (omega arith, high_there, still_acceptable m₀ sound.shows)
 
       module _ (kept : ℕ) (best : Longest x ws' (length os) n (n + put) kept) where
-        pub asks-stopped : (kept ≤ sample_rows current (length ws')) × (kept - n ≤ kept) × (kept - n ≤ lines) × (line_start lines ≤ length sheet)
-        asks-stopped = (
-          omega (arith, high-there, best.most),
+        pub asks_stopped : (kept ≤ sample_rows current (length ws')) × (kept - n ≤ kept) × (kept - n ≤ lines) × (line_start lines ≤ length sheet)
+        asks_stopped = (
+          omega (arith, high_there, best.most),
           omega arith,
           omega (arith, best.most, put_most n ws sheet lines put ws' told),
           sheet_whole sheet lines header,
         )
 
-        pub asks-rebuild : (k : ℕ) → k ≤ kept → Space ws' os k 4096
-        asks-rebuild k h = space_for ws os sound k ws' long (omega (arith, h, asks-stopped.0, ap (sample_rows current) long))
+        pub asks_rebuild : (k : ℕ) → k ≤ kept → Space ws' os k 4096
+        asks_rebuild k h = space_for ws os sound k ws' long (omega (arith, h, asks_stopped.0, ap (sample_rows current) long))
 
     -- A load that keeps the first rows that are acceptable, and says why it ends there, is the machine's.
     pub loads : (kept : ℕ) (r : Loaded) (number : ℕ) (t' : Tables)

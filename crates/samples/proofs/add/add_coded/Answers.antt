@@ -3,7 +3,7 @@ use native.Mathlib.Omega.{arith}
 use borrow.Author.Rules.{rules}
 use borrow.Author.Tests.{ltb-true, ltb-false, leb-true, leb-false}
 use Rattle.model.proofs.Tables.Numbers.{current_numbers}
-use Rattle.samples.proofs.Laws.Added.{tag_refused, row-refused, now-adding}
+use Rattle.samples.proofs.Laws.Added.{tag_refused, row_refused, now_adding}
 use Rattle.samples.proofs.Laws.Shown.{headers_there, rows_there}
 use Rattle.samples.proofs.add.add_coded.Goals as goal
 
@@ -21,12 +21,12 @@ returns-then-known c =
 
 pub returns-then-full : goal.returns-then-full
 returns-then-full c =
-    row-refused c.args.samples.now c.args.octants.now c.args.s c.requires.1 _ c.count-n.ensures _ c.row_of.ensures c.if-known.false
+    row_refused c.args.samples.now c.args.octants.now c.args.s c.requires.1 _ c.count-n.ensures _ c.row_of.ensures c.if-known.false
     (omega (arith, c.sample_rows.ensures.is, c.if-full.true))
 
 pub add_in_row-requires : goal.add_in_row-requires
 add_in_row-requires c =
-    now-adding c.args.samples.now c.args.octants.now c.args.s c.requires.1 _ c.count-n.ensures _ c.row_of.ensures c.if-known.false
+    now_adding c.args.samples.now c.args.octants.now c.args.s c.requires.1 _ c.count-n.ensures _ c.row_of.ensures c.if-known.false
     c.requires.0 (omega (arith, c.sample_rows.ensures.is, c.if-full.false))
 
 pub returns : goal.returns

@@ -5,7 +5,7 @@ use lib.ListN.{length}
 use Rattle.words.proofs.Laws.Layout.Places.{rows_few}
 use Rattle.model.proofs.Tables.Numbers.{current_numbers}
 use Rattle.samples.proofs.Laws.Shown.{count_few, both_headed}
-use Rattle.samples.proofs.Laws.Loaded.Whole.{sheet_whole, asks-longest, asks-stopped, asks-rebuild, loads}
+use Rattle.samples.proofs.Laws.Loaded.Whole.{sheet_whole, asks_longest, asks_stopped, asks_rebuild, loads}
 use Rattle.samples.proofs.load.load_lines.Goals as goal
 
 pub settings-settings-requires : goal.settings-settings-requires
@@ -22,21 +22,21 @@ put_lines-put-requires c =
 
 pub overflow_add-n : goal.overflow_add-n
 overflow_add-n c =
-    let a = asks-longest c.args.samples.now c.args.octants.now _ _ _ _ _ _ c.settings-settings.ensures c.count-n.ensures c.put_lines-put.ensures c.put_lines-put.auto.samples c.requires.1 c.requires.0 in
+    let a = asks_longest c.args.samples.now c.args.octants.now _ _ _ _ _ _ c.settings-settings.ensures c.count-n.ensures c.put_lines-put.ensures c.put_lines-put.auto.samples c.requires.1 c.requires.0 in
     omega (arith, a.1, rows_few (length c.put_lines-put.new.samples))
 
 pub longest-kept-requires : goal.longest-kept-requires
 longest-kept-requires c =
-    asks-longest _ c.args.octants.now _ _ _ _ _ _ c.settings-settings.ensures c.count-n.ensures c.put_lines-put.ensures c.put_lines-put.auto.samples c.requires.1 c.requires.0
+    asks_longest _ c.args.octants.now _ _ _ _ _ _ c.settings-settings.ensures c.count-n.ensures c.put_lines-put.ensures c.put_lines-put.auto.samples c.requires.1 c.requires.0
 
 pub stopped-answer-requires : goal.stopped-answer-requires
 stopped-answer-requires c =
-    asks-stopped _ c.args.octants.now _ _ _ _ _ _ c.settings-settings.ensures c.count-n.ensures c.put_lines-put.ensures c.put_lines-put.auto.samples c.requires.1 c.requires.0 _ c.longest-kept.ensures
+    asks_stopped _ c.args.octants.now _ _ _ _ _ _ c.settings-settings.ensures c.count-n.ensures c.put_lines-put.ensures c.put_lines-put.auto.samples c.requires.1 c.requires.0 _ c.longest-kept.ensures
 
 pub rebuild-requires : goal.rebuild-requires
 rebuild-requires c =
     let k = c.longest-kept.ensures in
-    asks-rebuild _ c.args.octants.now _ _ _ _ _ _ c.settings-settings.ensures c.count-n.ensures c.put_lines-put.ensures c.put_lines-put.auto.samples c.requires.1 c.requires.0 _ k _ (omega (arith, k.least))
+    asks_rebuild _ c.args.octants.now _ _ _ _ _ _ c.settings-settings.ensures c.count-n.ensures c.put_lines-put.ensures c.put_lines-put.auto.samples c.requires.1 c.requires.0 _ k _ (omega (arith, k.least))
 
 pub returns : goal.returns
 returns c =

@@ -3,7 +3,7 @@ use Prim.Native.Nat.{◌-◌}
 use native.Mathlib.Omega.{arith}
 use lib.ListN.{length}
 use Rattle.words.proofs.Laws.Layout.Places.{rows_few}
-use Rattle.samples.proofs.Laws.Loaded.Halving.{Between, all_accepted, begins, after-good, before-bad, upper-half, lower-half, found}
+use Rattle.samples.proofs.Laws.Loaded.Halving.{Between, all_accepted, begins, after_good, before_bad, upper_half, lower_half, found}
 use Rattle.samples.proofs.load.longest.Goals as goal
 
 pub acceptable-requires : goal.acceptable-requires
@@ -31,32 +31,32 @@ overflow_sub-middle c =
 pub overflow_add-middle : goal.overflow_add-middle
 overflow_add-middle c =
     let i = c.loop-good.invariant in
-    omega (arith, before-bad i c.loop-good-test.true, i.most, i.rows, rows_few (length c.args.samples.now))
+    omega (arith, before_bad i c.loop-good-test.true, i.most, i.rows, rows_few (length c.args.samples.now))
 
 pub acceptable-requires-in-loop-good : goal.acceptable-requires-in-loop-good
 acceptable-requires-in-loop-good c =
     let i = c.loop-good.invariant in
-    omega (arith, before-bad i c.loop-good-test.true, i.most, i.rows)
+    omega (arith, before_bad i c.loop-good-test.true, i.most, i.rows)
 
 pub loop-good-smaller-then-acceptable-2 : goal.loop-good-smaller-then-acceptable-2
 loop-good-smaller-then-acceptable-2 c =
     let i = c.loop-good.invariant in
     let t = c.loop-good-test.true in
-    omega (arith, after-good i t, before-bad i t)
+    omega (arith, after_good i t, before_bad i t)
 
 pub loop-good-preserved-then-acceptable-2 : goal.loop-good-preserved-then-acceptable-2
 loop-good-preserved-then-acceptable-2 c =
-    upper-half c.loop-good.invariant c.loop-good-test.true (c.acceptable-in-loop-good.ensures.0 c.if-acceptable-2.true)
+    upper_half c.loop-good.invariant c.loop-good-test.true (c.acceptable-in-loop-good.ensures.0 c.if-acceptable-2.true)
 
 pub loop-good-smaller : goal.loop-good-smaller
 loop-good-smaller c =
     let i = c.loop-good.invariant in
     let t = c.loop-good-test.true in
-    omega (arith, after-good i t, before-bad i t)
+    omega (arith, after_good i t, before_bad i t)
 
 pub loop-good-preserved : goal.loop-good-preserved
 loop-good-preserved c =
-    lower-half c.loop-good.invariant c.loop-good-test.true _ c.acceptable-in-loop-good.ensures c.if-acceptable-2.false
+    lower_half c.loop-good.invariant c.loop-good-test.true _ c.acceptable-in-loop-good.ensures c.if-acceptable-2.false
 
 pub returns : goal.returns
 returns c =

@@ -3,7 +3,7 @@ use Prim.Native.Nat.{◌-◌}
 use native.Mathlib.Omega.{arith}
 use lib.ListN.{length}
 use Rattle.words.proofs.Laws.Layout.Places.{rows_few}
-use Rattle.samples.proofs.Laws.Loaded.Halving.{Between, all_accepted, begins, after-good, before-bad, upper-half, lower-half, found}
+use Rattle.samples.proofs.Laws.Loaded.Halving.{Between, all_accepted, begins, after_good, before_bad, upper_half, lower_half, found}
 use Rattle.samples.proofs.load.longest.Given as goal
 
 abbrev pub invariant-loop-good : goal.invariant-loop-good

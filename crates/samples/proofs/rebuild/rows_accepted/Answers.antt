@@ -8,7 +8,7 @@ use borrow.Author.Tests.{not-false}
 use Rattle.words.proofs.Laws.Layout.Places.{rows_few}
 use Rattle.octree.specs.Steps.{fit_number}
 use Rattle.octree.proofs.Laws.Tables.Judged.{unfit}
-use Rattle.samples.proofs.Laws.Accepted.{tag_twice, code_out, octants-over, all_accepted}
+use Rattle.samples.proofs.Laws.Accepted.{tag_twice, code_out, octants_over, all_accepted}
 use Rattle.samples.proofs.rebuild.rows_accepted.Goals as goal
 
 pub returns-then-not-all_apart : goal.returns-then-not-all_apart
@@ -28,7 +28,7 @@ judge-requires c = (
 pub returns-in_default : goal.returns-in_default
 returns-in_default c =
     let filled = c.fill.ensures.entries c.if-not-fill.false in
-    octants-over _ _ c.args.octants _ _ c.all_apart.auto.tags c.fill.new.entries _ c.fill.auto.entries c.requires.0 filled
+    octants_over _ _ c.args.octants _ _ c.all_apart.auto.tags c.fill.new.entries _ c.fill.auto.entries c.requires.0 filled
     c.judge.result c.judge.ensures (unfit c.judge.result _ c.in_default.is)
 
 pub returns : goal.returns

@@ -4,7 +4,7 @@ use native.Mathlib.Omega.{arith}
 use lib.ListN.{length}
 use Rattle.words.proofs.Laws.Layout.Places.{rows_few}
 use Rattle.octree.proofs.Laws.Tables.Judged.{unfit}
-use Rattle.samples.proofs.Laws.Rebuilt.{no_room, fit-to-write, with-room}
+use Rattle.samples.proofs.Laws.Rebuilt.{no_room, fit_to_write, with_room}
 use Rattle.samples.proofs.rebuild.write_fitting.Goals as goal
 
 pub judge-requires : goal.judge-requires
@@ -19,9 +19,9 @@ returns-in_default c =
 pub write-requires : goal.write-requires
 write-requires c =
     let j = c.judge in
-    fit-to-write _ c.args.samples.now c.args.octants.now c.args.entries.now _ c.requires _ j.result j.ensures _ c.in-Fits.is j.auto.entries
+    fit_to_write _ c.args.samples.now c.args.octants.now c.args.entries.now _ c.requires _ j.result j.ensures _ c.in-Fits.is j.auto.entries
 
 pub returns : goal.returns
 returns c =
     let j = c.judge in
-    with-room _ c.args.samples.now c.args.octants.now c.args.entries.now _ c.requires _ j.result j.ensures _ c.in-Fits.is j.auto.entries _ c.write.ensures
+    with_room _ c.args.samples.now c.args.octants.now c.args.entries.now _ c.requires _ j.result j.ensures _ c.in-Fits.is j.auto.entries _ c.write.ensures

@@ -85,11 +85,11 @@ module _ (os : List ℕ) (b j at : ℕ) (xs : List Placed) (held : Held os b j a
     before = total (λ i. length (kids i)) k
 
     row_long : length row ≡ octant_width current
-    row_long = own_length b j at xs (some-held j split)
+    row_long = own_length b j at xs (some_held j split)
       where
-        some-held : (left : ℕ) → splits b left xs ≡ true → 1 ≤ length xs
-        some-held zero e = absurd (omega (arith, split_deep b zero xs e))
-        some-held (suc i) e = split_some b i xs e
+        some_held : (left : ℕ) → splits b left xs ≡ true → 1 ≤ length xs
+        some_held zero e = absurd (omega (arith, split_deep b zero xs e))
+        some_held (suc i) e = split_some b i xs e
 
     child_start : octant_start current (child_row b (j - 1) at xs k) ≡ octant_start current at + (octant_width current + before)
     unfolding child_row

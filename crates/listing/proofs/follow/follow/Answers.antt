@@ -1,0 +1,39 @@
+-- `follow::follow`: what was listed and seen, and what is still to come, is the whole run.
+use Prim.Native.Nat.{◌-◌}
+use mathlib.Core.Path.{◌∙◌, sym, ap}
+use native.Mathlib.Omega.{arith}
+use borrow.Author.Rules.{rules}
+use lib.ListN.{set}
+use Rattle.listing.proofs.Laws.Steps.Following.{Following, following_begins, all_seen, rows_end, not_listed, is_listed}
+use Rattle.listing.proofs.follow.follow.Goals as goal
+
+pub loop-seen-init : goal.loop-seen-init
+loop-seen-init c =
+    following_begins _ _ _ _ _ _ _
+
+pub shape_of-listing-then-rows-row : goal.shape_of-listing-then-rows-row
+shape_of-listing-then-rows-row c =
+    c.loop-seen.invariant.same
+
+pub returns-then-rows-row : goal.returns-then-rows-row
+returns-then-rows-row c =
+    rows_end _ _ _ _ _ _ _ c.loop-seen.invariant (omega (arith, c.sample_rows-rows.ensures.is))
+
+pub loop-seen-preserved-then-takes : goal.loop-seen-preserved-then-takes
+loop-seen-preserved-then-takes c =
+    is_listed _ _ _ _ _ _ _ c.loop-seen.invariant (omega (arith, c.if-rows-row.false, c.sample_rows-rows.ensures.is))
+    c.loop-seen-test.true c.next-row.ensures (sym c.takes.ensures ∙ c.if-takes.true)
+    (c.put.ensures ∙ ap (set c.loop-seen.listing c.loop-seen.end) c.tag.ensures)
+
+pub loop-seen-preserved : goal.loop-seen-preserved
+loop-seen-preserved c =
+    not_listed _ _ _ _ _ _ _ c.loop-seen.invariant (omega (arith, c.if-rows-row.false, c.sample_rows-rows.ensures.is))
+    c.loop-seen-test.true c.next-row.ensures (sym c.takes.ensures ∙ c.if-takes.false)
+
+pub shape_of-listing : goal.shape_of-listing
+shape_of-listing c =
+    c.loop-seen.invariant.same
+
+pub returns : goal.returns
+returns c =
+    all_seen _ _ _ _ _ _ _ c.loop-seen.invariant c.loop-seen-test.false

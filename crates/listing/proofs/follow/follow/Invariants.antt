@@ -1,0 +1,16 @@
+-- `follow::follow`: what was listed and seen, and what is still to come, is the whole run.
+use Prim.Native.Nat.{◌-◌}
+use mathlib.Core.Path.{◌∙◌, sym, ap}
+use native.Mathlib.Omega.{arith}
+use borrow.Author.Rules.{rules}
+use lib.ListN.{set}
+use Rattle.listing.proofs.Laws.Steps.Following.{Following, following_begins, all_seen, rows_end, not_listed, is_listed}
+use Rattle.listing.proofs.follow.follow.Given as goal
+
+abbrev pub invariant-loop-seen : goal.invariant-loop-seen
+invariant-loop-seen l =
+    Following l.samples l.region l.whole l.first l.count l.start l.initial.listing l.listing l.row l.seen l.end
+
+abbrev pub decreases-loop-seen : goal.decreases-loop-seen
+decreases-loop-seen l =
+    l.count - l.seen

@@ -1,0 +1,139 @@
+-- `visit::visit`: the children before `done` were visited or are not entered, and the mask has the others that overlap.
+use Prim.Native.Nat.{ℕ, suc, ◌+◌, ◌-◌, ◌<◌}
+use mathlib.Core.Path.{◌≡◌, ap, ◌∙◌}
+use native.Mathlib.Numerals.{add-one}
+use native.Mathlib.Omega.{arith}
+use lib.Pow.{pow_pos}
+use Rattle.colour.specs.Octant.{depths, side_at}
+use Rattle.colour.proofs.Laws.Mask.{First}
+use Rattle.listing.specs.Steps.{tally_in, Counting}
+use Rattle.listing.proofs.Laws.Steps.Turning.{meets, allowed, allowed_is, turning_begins, turning_ends, turning_barred, turning_visited, turning_counting, is_first, visited_long}
+use Rattle.traversal.proofs.Laws.Cubes.{limit_rows, child_depth}
+use Rattle.listing.proofs.Laws.Steps.Visiting.{allowed_row, entered_counting, own_visited, deep, turns_visited, mask_is, child_visited}
+use Rattle.listing.proofs.visit.+visit.Goals as goal
+use Rattle.listing.proofs.visit.+visit.Goals.{After-enter, Else-ends, After-side-half, After-first-k, After-may_enter}
+
+after_enter : (t : ℕ) (c : After-enter t) → Counting c.args.samples.now c.args.octants.now c.enter.new.tally
+after_enter t c =
+    let p = c.requires in
+    entered_counting _ _ c.args.region _ _ _ _ p.within p.counting p.next_bound.0 p.next_bound.1 c.enter.ensures
+
+-- A split octant has depths below it, and its children have half its side.
+deep_at : (t : ℕ) (c : Else-ends t) → c.args.cube.depth < 16
+deep_at t c =
+    let p = c.requires in
+    deep _ _ c.args.region _ _ _ _ p.within p.counting p.next_bound.0 p.next_bound.1 c.enter.ensures c.inside-whole.result c.ends.result
+    c.inside-whole.ensures c.ends.ensures c.if-ends.false
+
+halved : (t : ℕ) (c : After-side-half t) → c.side-half.result ≡ side_at (suc c.args.cube.depth)
+halved t c = c.side-half.ensures.is ∙ ap side_at (add-one _)
+
+-- The child that is next.
+found : (t : ℕ) (c : After-first-k t)
+    → First (meets c.args.samples.now c.args.octants.now c.args.region (16 - c.args.cube.depth - 1) c.args.row c.args.cube.low)
+    c.loop-left.invariant.done 8 c.loop-left.left c.first-k.result
+found t c = is_first _ _ _ _ _ _ c.loop-left.invariant c.loop-left-test.true _ c.first-k.ensures
+
+-- Whether it may be entered.
+permitted : (t : ℕ) (c : After-may_enter t)
+    → allowed c.args.samples.now c.args.octants.now c.args.region (16 - c.args.cube.depth - 1) c.args.row c.args.cube.low
+    c.first-k.result (tally_in c.loop-left.tally)
+    ≡ c.may_enter.result
+permitted t c =
+    allowed_is _ _ _ _ _ _ c.loop-left.invariant c.loop-left-test.true _ c.first-k.ensures _ _ _ c.octant_child-next.ensures
+    c.octant_limit-limit.ensures c.may_enter.ensures
+
+pub enter-requires : goal.enter-requires
+enter-requires t c =
+    let k = c.requires.counting in
+    (k.five, (omega (arith, k.limits.entered, c.requires.next_bound), omega (arith, k.small, c.requires.next_bound)))
+
+pub inside-whole-requires : goal.inside-whole-requires
+inside-whole-requires t c = (c.requires.fair, c.requires.within)
+
+pub ends-requires : goal.ends-requires
+unfolding depths
+ends-requires t c = (c.requires.counting.samples, (limit_rows _ _ c.requires.next_bound.1, c.requires.within.depth))
+
+pub own_samples-requires : goal.own_samples-requires
+own_samples-requires t c =
+    record { fair = c.requires.fair; counting = after_enter t (goal.at.own_samples-requires t c).After-enter; row_bound = c.requires.next_bound.1 }
+
+pub returns-then-ends : goal.returns-then-ends
+returns-then-ends t c =
+    let p = c.requires in
+    own_visited _ _ _ _ _ _ _ p.within p.counting p.next_bound.0 p.next_bound.1 c.enter.ensures c.inside-whole.result c.ends.result
+    c.inside-whole.ensures c.ends.ensures c.if-ends.true c.own_samples.ensures
+
+pub octant_limit-limit-requires : goal.octant_limit-limit-requires
+octant_limit-limit-requires t c = c.requires.counting.octants
+
+pub overflow_add-depth : goal.overflow_add-depth
+overflow_add-depth t c = omega (arith, deep_at t (goal.at.overflow_add-depth t c).Else-ends)
+
+pub side-half-requires : goal.side-half-requires
+side-half-requires t c = omega (arith, deep_at t (goal.at.side-half-requires t c).Else-ends)
+
+pub overlapping-left-requires : goal.overlapping-left-requires
+overlapping-left-requires t c =
+    let at = goal.at.overlapping-left-requires t c in
+    record { fair = (c.requires.fair, c.requires.within); depth_bound = deep_at t at.Else-ends; half_value = halved t at.After-side-half }
+
+pub loop-left-init : goal.loop-left-init
+loop-left-init t c =
+    let at = goal.at.loop-left-init t c in
+    turning_begins _ _ _ _ _ _ _ _ _ (after_enter t at.After-enter).five (mask_is c.args.cube _ (halved t at.After-side-half) _ _ c.overlapping-left.ensures.is)
+
+pub without-left-requires : goal.without-left-requires
+without-left-requires t c =
+    let f = found t (goal.at.without-left-requires t c).After-first-k in
+    (omega (arith, f.below), f.within)
+
+pub octant_child-next-requires : goal.octant_child-next-requires
+octant_child-next-requires t c =
+    (limit_rows _ _ c.requires.next_bound.1, (found t (goal.at.octant_child-next-requires t c).After-first-k).below)
+
+pub child-requires : goal.child-requires
+child-requires t c =
+    let at = goal.at.child-requires t c in
+    record { cube_within = c.requires.within; depth_bound = deep_at t at.Else-ends; half_value = halved t at.After-side-half }
+
+pub visit-requires : goal.visit-requires
+visit-requires t c =
+    let at = goal.at.visit-requires t c in
+    let r = allowed_row _ _ _ _ _ c.may_enter.ensures c.if-may_enter.true c.octant_limit-limit.ensures in (
+      omega (arith, c.decreases, deep_at t at.Else-ends, child_depth c.args.cube _ _ c.child.ensures.is),
+      (c.requires.fair, (c.child.ensures.within, (turning_counting _ _ _ _ _ _ c.loop-left.invariant (after_enter t at.After-enter), r))),
+    )
+
+pub loop-left-smaller-then-may_enter : goal.loop-left-smaller-then-may_enter
+loop-left-smaller-then-may_enter t c =
+    let f = found t (goal.at.loop-left-smaller-then-may_enter t c).After-first-k in
+    omega (arith, c.without-left.ensures, f.within, pow_pos c.first-k.result)
+
+pub loop-left-preserved-then-may_enter : goal.loop-left-preserved-then-may_enter
+loop-left-preserved-then-may_enter t c =
+    let at = goal.at.loop-left-preserved-then-may_enter t c in
+    turning_visited _ _ _ _ _ _ c.loop-left.invariant c.loop-left-test.true _ c.first-k.ensures _ c.without-left.ensures
+    (permitted t at.After-may_enter ∙ c.if-may_enter.true)
+    (child_visited c.args.cube _ (halved t at.After-side-half) _ _ _ _ _ _ _ c.child.ensures.is c.octant_child-next.ensures c.visit.ensures)
+
+pub loop-left-smaller : goal.loop-left-smaller
+loop-left-smaller t c =
+    let f = found t (goal.at.loop-left-smaller t c).After-first-k in
+    omega (arith, c.without-left.ensures, f.within, pow_pos c.first-k.result)
+
+pub loop-left-preserved : goal.loop-left-preserved
+loop-left-preserved t c =
+    let at = goal.at.loop-left-preserved t c in
+    turning_barred _ _ _ _ _ _ c.loop-left.invariant c.loop-left-test.true _ c.first-k.ensures _ c.without-left.ensures
+    (permitted t at.After-may_enter ∙ c.if-may_enter.false)
+
+pub shape_of-listing : goal.shape_of-listing
+shape_of-listing t c = visited_long c.loop-left.invariant.visited
+
+pub returns : goal.returns
+returns t c =
+    let p = c.requires in
+    turns_visited _ _ _ _ _ _ _ p.within p.counting p.next_bound.0 p.next_bound.1 c.enter.ensures c.inside-whole.result c.ends.result
+    c.inside-whole.ensures c.ends.ensures c.if-ends.false (turning_ends _ _ _ _ _ _ c.loop-left.invariant c.loop-left-test.false)

@@ -1,0 +1,23 @@
+-- `search::measure`: what was measured, and what is still to come, is the whole run.
+use Prim.Native.Nat.{◌-◌}
+use native.Mathlib.Omega.{arith}
+use Rattle.nearest.proofs.Laws.Steps.Measuring.{Measuring, measuring_begins, all_seen, rows_end, one_more}
+use borrow.Author.Rules.{rules}
+use Rattle.nearest.proofs.search.measure.Goals as goal
+
+pub loop-seen-init : goal.loop-seen-init
+loop-seen-init c =
+    measuring_begins _ _ _ _ _ _
+
+pub returns-then-rows-row : goal.returns-then-rows-row
+returns-then-rows-row c =
+    rows_end _ _ _ _ _ _ c.loop-seen.invariant (omega (arith, c.if-rows-row.true, c.sample_rows-rows.ensures.is))
+
+pub loop-seen-preserved : goal.loop-seen-preserved
+loop-seen-preserved c =
+    one_more _ _ _ _ _ _ c.loop-seen.invariant (omega (arith, c.if-rows-row.false, c.sample_rows-rows.ensures.is)) c.loop-seen-test.true
+    c.next-row.ensures c.measure_row-best.ensures
+
+pub returns : goal.returns
+returns c =
+    all_seen _ _ _ _ _ _ c.loop-seen.invariant c.loop-seen-test.false

@@ -1,0 +1,9 @@
+-- `ask::boxed`: what the entry ensures.
+use borrow.Author.Rules.{rules}
+use Rattle.model.specs.Meets.{lists}
+use Rattle.query.proofs.ask.boxed.Goals as goal
+
+pub returns : goal.returns
+unfolding lists
+returns c =
+    c.ask.ensures

@@ -1,0 +1,7 @@
+-- `hbx_rebuild`: the number of what the rebuild came to.
+use borrow.Author.Rules.{rules}
+use Rattle.rebuild.proofs.hbx_rebuild.Goals as goal
+
+pub returns : goal.returns
+returns c =
+    rw c.number_of.ensures c.rebuild_tables.ensures
