@@ -1,0 +1,20 @@
+-- A call is carried out by its kind, and what it gives is told as it is.
+use borrow.Author.Rules.{rules}
+use Rattle.replay.proofs.Laws.Calls.{ask_meets, change_meets, clear_meets}
+use Rattle.replay.proofs.call.call.Goals as goal
+
+pub returns-in-Clear : goal.returns-in-Clear
+returns-in-Clear c =
+    rw c.in-Clear.is
+    (clear_meets _ _ _ _ _ _ c.of_changed.ensures _ c.clear.ensures)
+
+pub returns-in-Change : goal.returns-in-Change
+returns-in-Change c =
+    rw c.in-Change.is
+    (change_meets _ _ _ _ _ _ c.change.ensures)
+
+pub returns-in-Ask : goal.returns-in-Ask
+returns-in-Ask c =
+    let a = c.ask in
+    rw c.in-Ask.is
+    (ask_meets _ _ _ _ _ _ (c.of_reply.ensures _) _ a.ensures.meets a.ensures.bounds)

@@ -1,0 +1,27 @@
+-- `replay::hbx_replay`: after i turns the first i steps are made.
+use Prim.Native.Nat.{ℕ, ◌+◌, ◌-◌, ◌*◌, ◌^◌, ◌≤◌, ◌<◌}
+use mathlib.Core.Path.{◌≡◌, refl, ◌∙◌}
+use native.Mathlib.Omega.{arith}
+use borrow.Author.Rules.{rules}
+use borrow.Rule.Slice.PartMut.{same_len_mid}
+use lib.ListN.{length, take, drop, length-take, length-drop}
+use Rattle.model.specs.Tables.{pair}
+use Rattle.replay.specs.Format.{step_width, answer_width}
+use Rattle.replay.specs.Script.{script_of, steps_of}
+use Rattle.replay.proofs.Laws.Events.{Upto, begin, within, turn}
+use Rattle.replay.proofs.Laws.Steps.{lent_within}
+use Rattle.replay.proofs.Laws.Day.{replayed}
+use Rattle.replay.proofs.replay.hbx_replay.Given as goal
+
+abbrev pub invariant-loop-i : goal.invariant-loop-i
+invariant-loop-i l =
+    (length l.samples ≡ length l.initial.samples)
+    × (length l.octants ≡ length l.initial.octants)
+    × (length l.listings ≡ length l.initial.listings)
+    × (length l.answers ≡ length l.initial.answers)
+    × (l.i ≤ l.steps)
+    × Upto (script_of l.script l.floats l.sheets l.initial.listings) l.initial.answers (pair l.initial.samples l.initial.octants) l.i l.at l.listings l.answers (pair l.samples l.octants)
+
+abbrev pub decreases-loop-i : goal.decreases-loop-i
+decreases-loop-i l =
+    l.steps - l.i

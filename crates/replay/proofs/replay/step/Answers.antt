@@ -1,0 +1,18 @@
+-- `replay::step`: what the functions that it calls ensure.
+use native.Mathlib.Omega.{arith}
+use lib.ListN.{length-take}
+use Rattle.replay.proofs.Laws.Steps.{stepped}
+use borrow.Author.Rules.{rules}
+use Rattle.replay.proofs.replay.step.Goals as goal
+
+pub slice_bounds-call-end-2 : goal.slice_bounds-call-end-2
+slice_bounds-call-end-2 c =
+    simp length-take (omega (arith, c.lent_to-lent.ensures))
+
+pub returns : goal.returns
+returns c =
+    let made = c.call-given in
+    let lent = c.lent_to-lent in
+    let said = c.call_in-next in
+    stepped _ _ _ _ _ _ said.result _ lent.result made.result made.new.listing _ _ said.ensures c.sheet_in-sheet.ensures lent.ensures
+    made.auto.listing made.ensures c.put_given.ensures

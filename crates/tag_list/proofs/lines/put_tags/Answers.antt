@@ -1,0 +1,33 @@
+-- `lines::put_tags`: a line for each tag that was passed.
+use Prim.Native.Nat.{◌-◌, ◌*◌, ◌≤◌}
+use mathlib.Core.List.{◌++◌}
+use mathlib.Core.Path.{◌≡◌, refl, ◌∙◌}
+use native.Mathlib.Omega.{arith}
+use lib.ListN.{length, take, drop}
+use Rattle.sheet.specs.Line.{tag_columns}
+use Rattle.model.specs.Walklist.{tag_lines}
+use Rattle.tag_list.proofs.Laws.Lines.{tags_more, tags_all}
+use borrow.Author.Rules.{rules}
+use Rattle.tag_list.proofs.lines.put_tags.Goals as goal
+
+pub loop-i-init : goal.loop-i-init
+unfolding tag_lines
+loop-i-init c =
+    (omega arith, refl, refl)
+
+pub put_number_line-requires : goal.put_number_line-requires
+put_number_line-requires c =
+    omega (arith, c.requires, c.loop-i.invariant.1)
+
+pub loop-i-preserved : goal.loop-i-preserved
+unfolding tag_columns
+loop-i-preserved c =
+    let put = c.put_number_line in (
+      omega arith,
+      put.auto.text ∙ c.loop-i.invariant.1,
+      put.ensures ∙ tags_more _ _ c.loop-i.i (omega arith) c.loop-i.text c.loop-i.invariant.2,
+    )
+
+pub returns : goal.returns
+returns c =
+    tags_all _ _ _ c.loop-i.i (omega arith) c.loop-i.invariant.2 c.loop-i.invariant.0

@@ -1,0 +1,19 @@
+-- `lines::put_tags`: a line for each tag that was passed.
+use Prim.Native.Nat.{◌-◌, ◌*◌, ◌≤◌}
+use mathlib.Core.List.{◌++◌}
+use mathlib.Core.Path.{◌≡◌, refl, ◌∙◌}
+use native.Mathlib.Omega.{arith}
+use lib.ListN.{length, take, drop}
+use Rattle.sheet.specs.Line.{tag_columns}
+use Rattle.model.specs.Walklist.{tag_lines}
+use Rattle.tag_list.proofs.Laws.Lines.{tags_more, tags_all}
+use borrow.Author.Rules.{rules}
+use Rattle.tag_list.proofs.lines.put_tags.Given as goal
+
+abbrev pub invariant-loop-i : goal.invariant-loop-i
+invariant-loop-i l =
+    (l.i ≤ length l.tags) × (length l.text ≡ length l.initial.text) × (l.text ≡ tag_lines (take l.i l.tags) ++ drop (11 * l.i) l.initial.text)
+
+abbrev pub decreases-loop-i : goal.decreases-loop-i
+decreases-loop-i l =
+    length l.tags - l.i
