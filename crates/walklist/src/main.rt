@@ -1,13 +1,30 @@
 // The program walklist: the tags of a sheet's samples, in the order, or a refusal. What it prints is `tag_list`'s; here it only reads and writes.
 #![tactic(auto)]
 
-use libc::{STDIN_FILENO, STDOUT_FILENO};
+ghost use Rattle.std.specs.Prelude.{◌≤◌, length, IfOk};
+
+use std::io::{self, Print, Read};
 use tag_list::print::{INPUT_LENGTH, TEXT_LENGTH, print};
 
-fn main() {
+// Reads until the buffer is full or the input ends, and says how many bytes there are.
+fn read_full<R: Read>(reader: &mut R, input: &mut [u8]) -> io::Result<usize>
+    ensures { IfOk result (λ n. n ≤ length input.new) }
+{
+    let mut end = 0;
+    while end < input.len() {
+        let read = reader.read(&mut input[end..])?;
+        if read == 0 {
+            return Ok(end);
+        }
+        end += read;
+    }
+    Ok(end)
+}
+
+fn main(rt: HostRuntime) -> io::Result<()> {
     let mut input = [0u8; INPUT_LENGTH];
-    let read = io::read_full(STDIN_FILENO, &mut input);
+    let read = read_full(&mut rt.stdin(), &mut input)?;
     let mut text = [0u8; TEXT_LENGTH];
     let printed = print(&input[..read], &mut text);
-    io::write_all(STDOUT_FILENO, &text[..printed]);
+    rt.write_all(&text[..printed])
 }
