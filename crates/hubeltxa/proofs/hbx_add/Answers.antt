@@ -1,5 +1,4 @@
 -- `hbx_add`: what add and number_of ensure.
-use borrow.Author.Rules.{rules}
 use Rattle.hubeltxa.proofs.Laws.Told.{changed_told, add_told}
 use Rattle.hubeltxa.proofs.hbx_add.Goals as goal
 

@@ -2,7 +2,6 @@
 use mathlib.Core.Path.{refl}
 use Rattle.model.specs.Meets.{lists}
 use Rattle.hubeltxa.proofs.Laws.Told.{listed_told, told_meets}
-use borrow.Author.Rules.{rules}
 use Rattle.hubeltxa.proofs.hbx_box.Goals as goal
 
 pub returns : goal.returns

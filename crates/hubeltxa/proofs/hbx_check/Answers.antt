@@ -1,5 +1,4 @@
 -- `hbx_check`: what check ensures of its answer, as a number.
-use borrow.Author.Rules.{rules}
 use mathlib.Core.Path.{sym, subst}
 use Rattle.model.specs.Meets.{CheckMeets}
 use Rattle.hubeltxa.proofs.hbx_check.Goals as goal

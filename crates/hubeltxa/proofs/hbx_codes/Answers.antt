@@ -1,5 +1,4 @@
 -- `hbx_codes`: what codes_of ensures of its enum, at the case that the match told.
-use borrow.Author.Rules.{rules}
 use mathlib.Core.Path.{sym, ap, ◌∙◌}
 use Prim.Native.Nat.{ℕ}
 use Rattle.colour.specs.Colour.{black, colour_by}

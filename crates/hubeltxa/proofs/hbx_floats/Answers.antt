@@ -1,5 +1,4 @@
 -- `hbx_floats`: what floats_of ensures of its enum, at the case that the match told.
-use borrow.Author.Rules.{rules}
 use mathlib.Core.Path.{sym, ap, ◌∙◌}
 use lib.Ieee.{round, of_bits}
 use Prim.Native.Nat.{ℕ}

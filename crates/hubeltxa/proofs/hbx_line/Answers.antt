@@ -1,5 +1,4 @@
 -- `hbx_line`: what write_line and number_of ensure.
-use borrow.Author.Rules.{rules}
 use mathlib.Core.Path.{ap, ◌∙◌}
 use Rattle.colour.specs.declared.Sample.{Sample}
 use Rattle.sheet.specs.Answers.{written_answer}

@@ -1,5 +1,4 @@
 -- `hbx_load`: what load and report_of ensure.
-use borrow.Author.Rules.{rules}
 use Rattle.hubeltxa.proofs.Laws.Told.{loaded_told}
 use Rattle.hubeltxa.proofs.hbx_load.Goals as goal
 

@@ -1,6 +1,5 @@
 -- `hbx_near`: what nearest and tell_near ensure.
 use mathlib.Core.Path.{refl}
-use borrow.Author.Rules.{rules}
 use Rattle.model.specs.Meets.{lists}
 use Rattle.hubeltxa.proofs.Laws.Told.{near_told, told_meets}
 use Rattle.hubeltxa.proofs.hbx_near.Goals as goal

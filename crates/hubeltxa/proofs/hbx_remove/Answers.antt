@@ -1,5 +1,4 @@
 -- `hbx_remove`: what remove and number_of ensure.
-use borrow.Author.Rules.{rules}
 use Rattle.hubeltxa.proofs.Laws.Told.{changed_told}
 use Rattle.hubeltxa.proofs.hbx_remove.Goals as goal
 

@@ -1,6 +1,5 @@
 -- `tell`: what report_of ensures, word by word.
 use mathlib.Core.Path.{ap}
-use borrow.Author.Rules.{rules}
 use Rattle.model.specs.Machine.{Answer}
 use Rattle.query.specs.Answers.{report_answer}
 use Rattle.hubeltxa.proofs.tell.Goals as goal

@@ -31,7 +31,6 @@ use Rattle.model.specs.Meets.{lists}
 use Rattle.nearest.specs.declared.best.Best.{Best}
 use Rattle.nearest.specs.Best.{best_answer}
 use Rattle.query.specs.declared.answers.Reply.{Reply}
-use Rattle.query.specs.declared.answers.Reply.TheVariants as Reply
 use Rattle.query.specs.Answers.{reply_answer, of_kind, raw_wanted, raw_answer, Bounds, AskMeets}
 use Rattle.query.proofs.Laws.Answered.{raw_short, raw_refused, raw_wanted_lem, ask_meets, ask_bounds}
 

@@ -1,5 +1,4 @@
 -- `hbx_rebuild`: the number of what the rebuild came to.
-use borrow.Author.Rules.{rules}
 use Rattle.rebuild.proofs.hbx_rebuild.Goals as goal
 
 pub returns : goal.returns

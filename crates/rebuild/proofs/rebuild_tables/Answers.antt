@@ -1,9 +1,7 @@
 -- `rebuild_tables`: questions 1, 3 and 6, then the rows.
-use borrow.Author.Rules.{rules}
 use mathlib.Core.Path.{sym, ◌∙◌}
 use native.Mathlib.Omega.{arith}
 use Rattle.model.specs.Sound.{long_enough}
-use borrow.Author.Tests.{not-true, not-false}
 use Rattle.rebuild.proofs.Laws.Asked.{says_1, says_3, says_6, spaced, then_told}
 use Rattle.rebuild.proofs.rebuild_tables.Goals as goal
 

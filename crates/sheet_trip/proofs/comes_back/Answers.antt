@@ -1,9 +1,7 @@
 -- `comes_back`: what write_line left stands as read_line has it, by laws of Trip.
-use borrow.Author.Rules.{rules}
 use mathlib.Core.Bool.{true≢false}
 use mathlib.Core.Path.{refl, sym, ap, ◌∙◌}
 use native.Mathlib.Omega.{arith}
-use borrow.Author.Tests.{not-true}
 use Rattle.sheet.specs.Answers.{line_answer, written_number}
 use Rattle.sheet.specs.Computes.{sheet_numbers}
 use Rattle.sheet.proofs.Laws.Writing.Lines.{refused}

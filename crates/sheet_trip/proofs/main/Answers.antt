@@ -1,5 +1,4 @@
 -- `main`: what is promised of each case, computed.
-use borrow.Author.Rules.{rules}
 use Rattle.sheet.specs.Computes.{sheet_computes}
 use Rattle.sheet_trip.proofs.main.Goals as goal
 

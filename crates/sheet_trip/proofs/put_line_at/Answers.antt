@@ -1,5 +1,4 @@
 -- `put_line_at`: the part that was lent comes back with what write_line left, by `line_put` of Trip.
-use borrow.Author.Rules.{rules}
 use Rattle.sheet_trip.proofs.Trip.{line_put}
 use Rattle.sheet_trip.proofs.put_line_at.Goals as goal
 

@@ -1,5 +1,4 @@
 -- The square of a 32-bit number is at most that of the largest one, which fits 64 bits.
-use borrow.Author.Rules.{rules}
 use Prim.Native.Nat.{◌≤◌}
 use native.Mathlib.Omega.{arith}
 use Rattle.colour.proofs.Laws.Distance.{square_most}

@@ -1,5 +1,4 @@
 -- The sum of the squares of the three differences is the distance, written out.
-use borrow.Author.Rules.{rules}
 use Rattle.colour.specs.Colour.{code_in, sum_of, distance}
 use Rattle.colour.proofs.distance.squared.Goals as goal
 

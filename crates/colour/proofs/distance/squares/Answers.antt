@@ -1,5 +1,4 @@
 -- Each square is at most 65535², so the three sum to at most 3 × 65535².
-use borrow.Author.Rules.{rules}
 use native.Mathlib.Omega.{arith}
 use Rattle.colour.proofs.Laws.Distance.{squares_most}
 use Rattle.colour.proofs.distance.squares.Goals as goal

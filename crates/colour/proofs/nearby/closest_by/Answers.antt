@@ -6,7 +6,6 @@ use Rattle.colour.specs.Colour.{sum_of}
 use Rattle.colour.specs.Octant.{bit_weight}
 use Rattle.colour.specs.Steps.{of_channel, child_sum}
 use Rattle.colour.specs.Nearby.{closest_by}
-use borrow.Author.Rules.{rules}
 use Rattle.colour.proofs.nearby.closest_by.Goals as goal
 
 pub returns : goal.returns

@@ -4,7 +4,6 @@ use Rattle.colour.specs.Colour.{Channel, code_in, sum_of}
 use Rattle.colour.specs.Octant.{bit_weight}
 use Rattle.colour.specs.Nearby.{closest_child}
 use Rattle.colour.proofs.Laws.Cubes.{child_room}
-use borrow.Author.Rules.{rules}
 use Rattle.colour.proofs.nearby.closest_child.Goals as goal
 
 pub overflow_add-low : goal.overflow_add-low

@@ -1,5 +1,4 @@
 -- The bit is 0 or 1, so the offset is at most the side.
-use borrow.Author.Rules.{rules}
 use Prim.Native.Nat.{◌/◌}
 use native.Mathlib.Omega.{arith}
 use Rattle.colour.proofs.Laws.Octants.{bit_piece}

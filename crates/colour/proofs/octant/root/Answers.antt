@@ -1,5 +1,4 @@
 -- Each least code is 0, and the side is the table's at depth 0.
-use borrow.Author.Rules.{rules}
 use Rattle.colour.specs.Colour.{colour_by, black}
 use Rattle.colour.specs.Octant.{root_cube}
 use Rattle.colour.proofs.Laws.Cubes.{root_within, is_within}

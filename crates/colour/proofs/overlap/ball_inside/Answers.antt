@@ -1,5 +1,4 @@
 -- A radius up to half the side is too small; for another, the farthest colour's distance is the definition's.
-use borrow.Author.Rules.{rules}
 use mathlib.Core.Path.{sym}
 use Rattle.colour.specs.Colour.{Channel}
 use Rattle.colour.specs.Region.{inside}

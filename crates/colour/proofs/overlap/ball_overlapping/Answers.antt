@@ -1,5 +1,4 @@
 -- The halves are the region's, so the mask is that of the children that overlap.
-use borrow.Author.Rules.{rules}
 use Rattle.colour.specs.declared.Region.TheVariants.{Ball}
 use Rattle.colour.specs.Colour.{Channel, code_in}
 use Rattle.colour.specs.Steps.{share, limit_of, halves_of}

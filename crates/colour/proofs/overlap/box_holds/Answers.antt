@@ -1,5 +1,4 @@
 -- The test of each channel.
-use borrow.Author.Rules.{rules}
 use Rattle.colour.specs.Colour.{code_in, each}
 use Rattle.colour.specs.Region.{holds}
 use Rattle.colour.proofs.overlap.box_holds.Goals as goal

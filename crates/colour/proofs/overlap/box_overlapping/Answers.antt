@@ -1,5 +1,4 @@
 -- The halves are the region's, so the mask is that of the children that overlap.
-use borrow.Author.Rules.{rules}
 use mathlib.Core.Path.{refl}
 use Rattle.colour.specs.declared.Region.TheVariants.{Box}
 use Rattle.colour.specs.Colour.{Channel, code_in}

@@ -1,5 +1,4 @@
 -- Each half's square is that of the gap to its closest code, which is a code's at most.
-use borrow.Author.Rules.{rules}
 use native.Mathlib.Omega.{arith}
 use Rattle.colour.specs.Steps.{closest_square, halves_of}
 use Rattle.colour.proofs.Laws.Distance.{square_most}

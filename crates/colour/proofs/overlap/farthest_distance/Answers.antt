@@ -1,5 +1,4 @@
 -- The three gaps are those to the farthest colour's codes, so their squares sum to its distance.
-use borrow.Author.Rules.{rules}
 use Rattle.colour.specs.Colour.{Channel, code_in, colour_by, sum_of, distance}
 use Rattle.colour.specs.Region.{farthest}
 use Rattle.colour.proofs.Laws.Cubes.{room}

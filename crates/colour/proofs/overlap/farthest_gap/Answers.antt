@@ -1,5 +1,4 @@
 -- The test on the two differences picks the case of the farthest code.
-use borrow.Author.Rules.{rules}
 use Rattle.colour.specs.Octant.{last_code}
 use Rattle.colour.proofs.Laws.Gaps.{farthest_high, farthest_low}
 use Rattle.colour.proofs.overlap.farthest_gap.Goals as goal

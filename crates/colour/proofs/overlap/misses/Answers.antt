@@ -1,5 +1,4 @@
 -- Each half's number is that of its test.
-use borrow.Author.Rules.{rules}
 use native.Mathlib.Omega.{arith}
 use Rattle.colour.specs.Steps.{missed, halves_of}
 use Rattle.colour.proofs.overlap.misses.Goals as goal

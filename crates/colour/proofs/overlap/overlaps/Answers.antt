@@ -1,5 +1,4 @@
 -- By cases on the region: each case is the definition's, at what the callee ensures.
-use borrow.Author.Rules.{rules}
 use mathlib.Core.Path.{subst}
 use Rattle.colour.specs.Region.{overlaps, Fair}
 use Rattle.colour.proofs.overlap.overlaps.Goals as goal

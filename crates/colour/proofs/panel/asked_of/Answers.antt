@@ -1,5 +1,4 @@
 -- `panel::asked_of`: what sphere_of and box_asked ensure and the matches told, by laws of Floats.Queries.
-use borrow.Author.Rules.{rules}
 use mathlib.Core.Path.{refl, sym, ap, ◌∙◌}
 use Rattle.colour.specs.declared.Query.TheVariants.{Ball, Nearest}
 use Rattle.colour.specs.declared.Region.TheVariants as R

@@ -1,5 +1,4 @@
 -- `panel::box_asked`: what codes_of and at_most ensure and the matches told, by laws of Floats.Queries.
-use borrow.Author.Rules.{rules}
 use mathlib.Core.Path.{sym, ◌∙◌}
 use Rattle.colour.proofs.Floats.Queries.{no_low, no_high, box_yes, box_no}
 use Rattle.colour.proofs.panel.box_asked.Goals as goal

@@ -1,5 +1,4 @@
 -- `panel::channel_code`: what code_of ensures, at the limit of a channel.
-use borrow.Author.Rules.{rules}
 use Rattle.colour.specs.Panel.{channel_good}
 use Rattle.colour.proofs.panel.channel_code.Goals as goal
 

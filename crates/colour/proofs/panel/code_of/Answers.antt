@@ -1,5 +1,4 @@
 -- `panel::code_of`: each return is a law of Floats.Fields at the float's bits.
-use borrow.Author.Rules.{rules}
 use mathlib.Core.Path.{◌≡◌, sym, ap, ◌∙◌, subst}
 use mathlib.Core.Bool.{false, not, true≢false}
 use Prim.Native.Nat.{ℕ, ◌+◌, ◌/◌, ◌^◌, ◌-◌, ◌<◌}

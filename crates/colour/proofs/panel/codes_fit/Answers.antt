@@ -1,5 +1,4 @@
 -- `panel::codes_fit`: what at_most ensures, at the greatest code in each channel.
-use borrow.Author.Rules.{rules}
 use Rattle.colour.specs.Colour.{code_in, each, is_code, codes_fit}
 use Rattle.colour.specs.Query.{ordered}
 use Rattle.colour.proofs.panel.codes_fit.Goals as goal

@@ -1,5 +1,4 @@
 -- `panel::codes_of`: each channel's answer from what channel_code ensures and the match told, then the laws of Floats.Answers.
-use borrow.Author.Rules.{rules}
 use mathlib.Core.Path.{sym, ◌∙◌}
 use Rattle.colour.specs.Colour.{Red, Green, Blue}
 use Rattle.colour.proofs.Floats.Answers.{codes_no, codes_yes, codes_meet}

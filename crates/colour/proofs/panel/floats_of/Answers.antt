@@ -1,5 +1,4 @@
 -- `panel::floats_of`: codes_fit's answer gives what show asks, and what show ensures gives the colour shown.
-use borrow.Author.Rules.{rules}
 use native.Mathlib.Omega.{arith}
 use mathlib.Core.Path.{◌≡◌, sym, ◌∙◌}
 use mathlib.Core.Bool.{true}

@@ -1,5 +1,4 @@
 -- `panel::radius_code`: what code_of ensures, at the limit of a radius.
-use borrow.Author.Rules.{rules}
 use Rattle.colour.specs.Panel.{radius_good}
 use Rattle.colour.proofs.panel.radius_code.Goals as goal
 

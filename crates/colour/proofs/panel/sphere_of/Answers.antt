@@ -1,5 +1,4 @@
 -- `panel::sphere_of`: what codes_of and radius_code ensure and the matches told, by laws of Floats.Queries.
-use borrow.Author.Rules.{rules}
 use mathlib.Core.Path.{sym, ◌∙◌}
 use Rattle.colour.proofs.Floats.Queries.{no_centre, no_radius, sphere_yes}
 use Rattle.colour.proofs.panel.sphere_of.Goals as goal

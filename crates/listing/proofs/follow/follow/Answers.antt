@@ -1,10 +1,8 @@
 -- `follow::follow`: what was listed and seen, and what is still to come, is the whole run.
-use Prim.Native.Nat.{◌-◌}
 use mathlib.Core.Path.{◌∙◌, sym, ap}
 use native.Mathlib.Omega.{arith}
-use borrow.Author.Rules.{rules}
 use lib.ListN.{set}
-use Rattle.listing.proofs.Laws.Steps.Following.{Following, following_begins, all_seen, rows_end, not_listed, is_listed}
+use Rattle.listing.proofs.Laws.Steps.Following.{following_begins, all_seen, rows_end, not_listed, is_listed}
 use Rattle.listing.proofs.follow.follow.Goals as goal
 
 pub loop-seen-init : goal.loop-seen-init

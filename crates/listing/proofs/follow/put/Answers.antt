@@ -1,7 +1,6 @@
 -- `follow::put`: a store where the listing reaches, and none past it.
 use mathlib.Core.Path.{sym}
 use lib.Seq.{set_out}
-use borrow.Author.Rules.{rules}
 use Rattle.listing.proofs.follow.put.Goals as goal
 
 pub returns-else-place-listing : goal.returns-else-place-listing

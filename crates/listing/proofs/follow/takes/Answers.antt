@@ -4,7 +4,6 @@ use Rattle.colour.specs.Colour.{wrapped}
 use Rattle.colour.specs.Region.{holds}
 use Rattle.words.specs.Rows.{sample_in}
 use Rattle.listing.specs.Pass.{takes}
-use borrow.Author.Rules.{rules}
 use Rattle.listing.proofs.follow.takes.Goals as goal
 
 pub returns-then-whole : goal.returns-then-whole

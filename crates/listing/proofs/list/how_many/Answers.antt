@@ -1,7 +1,6 @@
 -- `list::how_many`: what a pass with a fresh tally counted.
 use mathlib.Core.Path.{◌∙◌}
 use Rattle.listing.proofs.Laws.Answers.Listing.{counted_all}
-use borrow.Author.Rules.{rules}
 use Rattle.listing.proofs.list.how_many.Goals as goal
 
 pub returns : goal.returns

@@ -2,7 +2,6 @@
 use native.Mathlib.Omega.{arith}
 use Rattle.listing.proofs.Laws.Answers.Answered.{tags_budget}
 use Rattle.listing.proofs.Laws.Answers.Listing.{no_room}
-use borrow.Author.Rules.{rules}
 use Rattle.listing.proofs.list.list.Goals as goal
 use Rattle.listing.proofs.list.list.Goals.{then-room-sample_budget+else-room-how_many, else-room-sample_budget}
 

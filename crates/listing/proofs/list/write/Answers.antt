@@ -1,6 +1,5 @@
 -- `list::write`: what a pass with a fresh tally listed and counted.
 use Rattle.listing.proofs.Laws.Answers.Listing.{listed_all}
-use borrow.Author.Rules.{rules}
 use Rattle.listing.proofs.list.write.Goals as goal
 
 pub returns : goal.returns

@@ -2,7 +2,6 @@
 use native.Mathlib.Omega.{arith}
 use Rattle.listing.specs.Steps.{tally_in}
 use Rattle.listing.proofs.Laws.Steps.Tally.{count_words}
-use borrow.Author.Rules.{rules}
 use Rattle.listing.proofs.tally.count.Goals as goal
 
 pub measured_after-measured-requires : goal.measured_after-measured-requires

@@ -2,7 +2,6 @@
 use Rattle.listing.proofs.Laws.Steps.Tally.{enter_words}
 use Rattle.listing.specs.Steps.{tally_in}
 use native.Mathlib.Omega.{arith}
-use borrow.Author.Rules.{rules}
 use Rattle.listing.proofs.tally.enter.Goals as goal
 
 pub overflow_add-tally : goal.overflow_add-tally

@@ -1,7 +1,6 @@
 -- `tally::may_enter`: both tests.
 use mathlib.Core.Path.{refl}
 use Rattle.listing.specs.Steps.{tally_in}
-use borrow.Author.Rules.{rules}
 use Rattle.listing.proofs.tally.may_enter.Goals as goal
 
 pub returns : goal.returns

@@ -1,6 +1,5 @@
 -- `tally::measured_after`: by cases.
 use Rattle.listing.specs.Pass.{measured_after}
-use borrow.Author.Rules.{rules}
 use Rattle.listing.proofs.tally.measured_after.Goals as goal
 
 pub returns-then-whole : goal.returns-then-whole

@@ -1,7 +1,6 @@
 -- `tally::visited`: one of the five words.
 use mathlib.Core.Path.{refl}
 use Rattle.listing.specs.Steps.{listed_in, tally_in}
-use borrow.Author.Rules.{rules}
 use Rattle.listing.proofs.tally.visited.Goals as goal
 
 pub returns : goal.returns

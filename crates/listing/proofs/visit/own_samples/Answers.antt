@@ -6,7 +6,6 @@ use native.Mathlib.Omega.{arith}
 use Rattle.traversal.proofs.Laws.Cubes.{limit_rows}
 use Rattle.listing.proofs.Laws.Steps.Visiting.{own_start, own_room, own_counted}
 use Rattle.traversal.proofs.Laws.Rows.{budget_most}
-use borrow.Author.Rules.{rules}
 use Rattle.listing.proofs.visit.own_samples.Goals as goal
 use Rattle.listing.proofs.visit.own_samples.Goals.{After-most-most}
 

@@ -2,7 +2,6 @@
 use native.Mathlib.Omega.{arith}
 use Rattle.listing.proofs.Laws.Steps.Visiting.{allowed_row}
 use Rattle.listing.proofs.Laws.Steps.Passing.{pass_within, fresh_counting, root_barred, root_apart, root_visited}
-use borrow.Author.Rules.{rules}
 use Rattle.listing.proofs.visit.pass.Goals as goal
 
 pub visit-requires : goal.visit-requires

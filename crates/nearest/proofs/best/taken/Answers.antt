@@ -1,7 +1,6 @@
 -- `best::taken`: by whether it comes before.
 use mathlib.Core.Path.{◌∙◌, sym}
 use Rattle.nearest.specs.Best.{taken}
-use borrow.Author.Rules.{rules}
 use Rattle.nearest.proofs.best.taken.Goals as goal
 
 pub returns-then-closer : goal.returns-then-closer

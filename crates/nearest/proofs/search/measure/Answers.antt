@@ -1,8 +1,6 @@
 -- `search::measure`: what was measured, and what is still to come, is the whole run.
-use Prim.Native.Nat.{◌-◌}
 use native.Mathlib.Omega.{arith}
-use Rattle.nearest.proofs.Laws.Steps.Measuring.{Measuring, measuring_begins, all_seen, rows_end, one_more}
-use borrow.Author.Rules.{rules}
+use Rattle.nearest.proofs.Laws.Steps.Measuring.{measuring_begins, all_seen, rows_end, one_more}
 use Rattle.nearest.proofs.search.measure.Goals as goal
 
 pub loop-seen-init : goal.loop-seen-init

@@ -1,8 +1,6 @@
 -- `search::measure`: what was measured, and what is still to come, is the whole run.
 use Prim.Native.Nat.{◌-◌}
-use native.Mathlib.Omega.{arith}
-use Rattle.nearest.proofs.Laws.Steps.Measuring.{Measuring, measuring_begins, all_seen, rows_end, one_more}
-use borrow.Author.Rules.{rules}
+use Rattle.nearest.proofs.Laws.Steps.Measuring.{Measuring}
 use Rattle.nearest.proofs.search.measure.Given as goal
 
 abbrev pub invariant-loop-seen : goal.invariant-loop-seen

@@ -1,7 +1,6 @@
 -- `search::measure_row`: the sample is taken, or the best stays.
 use Rattle.words.specs.Rows.{sample_in}
 use Rattle.nearest.specs.Search.{measure_row}
-use borrow.Author.Rules.{rules}
 use Rattle.nearest.proofs.search.measure_row.Goals as goal
 
 pub returns : goal.returns

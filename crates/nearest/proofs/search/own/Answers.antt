@@ -3,7 +3,6 @@ use native.Mathlib.Omega.{arith}
 use Rattle.traversal.proofs.Laws.Rows.{budget_most}
 use Rattle.traversal.proofs.Laws.Cubes.{limit_rows}
 use Rattle.nearest.proofs.Laws.Steps.Searching.{own_measured, own_room}
-use borrow.Author.Rules.{rules}
 use Rattle.nearest.proofs.search.own.Goals as goal
 
 pub most-count-requires : goal.most-count-requires

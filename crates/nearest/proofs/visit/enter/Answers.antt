@@ -1,7 +1,6 @@
 -- `visit::enter`: one more.
 use native.Mathlib.Numerals.{add-one}
 use Rattle.nearest.specs.Search.{search_entering}
-use borrow.Author.Rules.{rules}
 use Rattle.nearest.proofs.visit.enter.Goals as goal
 
 pub returns : goal.returns

@@ -10,7 +10,6 @@ use Rattle.colour.specs.Octant.{root_cube, depths}
 use Rattle.nearest.specs.declared.search.Search.{Search}
 use Rattle.nearest.specs.Search.{search_of}
 use Rattle.nearest.proofs.Laws.Steps.Searching.{no_root, from_root, starting}
-use borrow.Author.Rules.{rules}
 use Rattle.nearest.proofs.visit.nearest.Goals as goal
 
 pub returns-then-octant_limit-eq0 : goal.returns-then-octant_limit-eq0

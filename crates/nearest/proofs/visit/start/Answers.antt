@@ -1,7 +1,6 @@
 -- `visit::start`: the limit is the square of the radius.
 use Rattle.nearest.specs.Best.{unfound}
 use Rattle.nearest.specs.Search.{no_search}
-use borrow.Author.Rules.{rules}
 use Rattle.nearest.proofs.visit.start.Goals as goal
 
 pub returns : goal.returns

@@ -1,10 +1,9 @@
 -- `next::all_are`: a next word each turn, from the last entry on.
 use mathlib.Core.Path.{refl, sym, ◌∙◌}
 use native.Mathlib.Omega.{arith}
-use borrow.Author.Rules.{rules}
 use lib.ListN.{length}
 use Rattle.words.proofs.Laws.Layout.Places.{rows_few}
-use Rattle.octree.proofs.Laws.Next.{NextsFrom, nexts_none, nexts_more, row_below, nexts_same, nexts_differ}
+use Rattle.octree.proofs.Laws.Next.{nexts_none, nexts_more, row_below, nexts_same, nexts_differ}
 use Rattle.octree.proofs.next.all_are.Goals as goal
 
 pub overflow_cast-after : goal.overflow_cast-after

@@ -1,11 +1,10 @@
 -- `next::put_all`: a next word each turn, from the last entry on.
 use mathlib.Core.Path.{ap}
 use native.Mathlib.Omega.{arith}
-use borrow.Author.Rules.{rules}
 use lib.ListN.{length}
 use Rattle.model.specs.Layout.{current, sample_rows}
 use Rattle.words.proofs.Laws.Layout.Places.{rows_few}
-use Rattle.octree.proofs.Laws.Next.{row_below, nexts_all, NextsPut, put_none, put_more, put_samples}
+use Rattle.octree.proofs.Laws.Next.{row_below, nexts_all, put_none, put_more, put_samples}
 use Rattle.octree.proofs.next.put_all.Goals as goal
 
 pub overflow_cast-after : goal.overflow_cast-after

@@ -2,7 +2,6 @@
 use Prim.Native.Nat.{◌≤◌}
 use mathlib.Core.Path.{refl, ◌∙◌}
 use native.Mathlib.Omega.{arith}
-use borrow.Author.Rules.{rules}
 use lib.ListN.{length}
 use Rattle.octree.proofs.Laws.Rows.Octant.{first_entry, last_entry}
 use Rattle.octree.proofs.rows.octant_of.Goals as goal

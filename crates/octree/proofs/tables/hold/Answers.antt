@@ -1,8 +1,6 @@
 -- `tables::hold`: tags, codes, then the tables.
 use mathlib.Core.Bool.{not}
 use mathlib.Core.Path.{ap}
-use borrow.Author.Rules.{rules}
-use borrow.Author.Tests.{not-false}
 use Rattle.octree.proofs.Laws.Tables.Check.{twice, out_of_range, now_listed, set_tells}
 use Rattle.octree.proofs.tables.hold.Goals as goal
 

@@ -1,6 +1,5 @@
 -- `tables::judge`: the first of questions 6 and 7 that says no.
 use native.Mathlib.Omega.{arith}
-use borrow.Author.Rules.{rules}
 use Rattle.colour.specs.Octant.{depths}
 use Rattle.octree.proofs.Laws.Tables.Judged.{lacks_row, lacks_octants, judged}
 use Rattle.octree.proofs.tables.judge.Goals as goal

@@ -1,7 +1,6 @@
 -- `tables::octants_are`: the count, the rows, then the zeros after them.
 use mathlib.Core.Path.{sym, ap, ◌∙◌}
 use native.Mathlib.Omega.{arith}
-use borrow.Author.Rules.{rules}
 use Rattle.colour.specs.Octant.{depths}
 use Rattle.words.proofs.Laws.Layout.Places.{octants_first}
 use Rattle.octree.specs.Steps.{compared_answer}

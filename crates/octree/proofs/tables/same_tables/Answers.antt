@@ -2,8 +2,6 @@
 use mathlib.Core.Bool.{not}
 use mathlib.Core.Path.{ap, sym, ◌∙◌}
 use native.Mathlib.Omega.{arith}
-use borrow.Author.Rules.{rules}
-use borrow.Author.Tests.{not-false}
 use lib.ListN.{length}
 use Rattle.words.proofs.Laws.Layout.Places.{rows_few}
 use Rattle.octree.proofs.Laws.Tables.Judged.{unfit, not_fitting, judged_once, judged_few, judged_ordered, judged_octants, judged_room, samples_differ, tables_tell}

@@ -2,8 +2,6 @@
 use mathlib.Core.Bool.{not}
 use mathlib.Core.Path.{ap, refl}
 use native.Mathlib.Omega.{arith}
-use borrow.Author.Rules.{rules}
-use borrow.Author.Tests.{not-false}
 use Rattle.words.proofs.Laws.Layout.Places.{samples_end}
 use Rattle.octree.proofs.Laws.Tables.Samples.{nexts_other, rest_tells}
 use Rattle.octree.proofs.tables.samples_are.Goals as goal

@@ -1,5 +1,4 @@
 -- `tables::write`: both tables of the samples in the first rows.
-use borrow.Author.Rules.{rules}
 use Rattle.octree.proofs.Laws.Tables.Judged.{written_once, written_few, written_ordered, written_fits, tables_written}
 use Rattle.octree.proofs.tables.write.Goals as goal
 

@@ -1,7 +1,6 @@
 -- `tables::write_samples`: next words, header, zeros.
 use mathlib.Core.Path.{refl}
 use native.Mathlib.Omega.{arith}
-use borrow.Author.Rules.{rules}
 use lib.ListN.{length}
 use Rattle.words.proofs.Laws.Layout.Places.{samples_end}
 use Rattle.octree.proofs.Laws.Tables.Samples.{samples_written}

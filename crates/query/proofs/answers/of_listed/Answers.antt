@@ -3,7 +3,6 @@ use mathlib.Core.Path.{refl, sym, ap}
 use Rattle.listing.specs.declared.list.Listed.{Listed}
 use Rattle.listing.specs.Answers.{listed_answer}
 use Rattle.query.specs.Answers.{reply_answer, of_kind}
-use borrow.Author.Rules.{rules}
 use Rattle.query.proofs.answers.of_listed.Goals as goal
 
 pub returns-in-All : goal.returns-in-All

@@ -5,7 +5,6 @@ use Rattle.model.specs.Machine.{plain, nearest_answer, list_answer}
 use Rattle.query.specs.declared.answers.Reply.{Reply}
 use Rattle.query.specs.declared.answers.Report.{Report}
 use Rattle.query.specs.Answers.{reply_answer, report_answer}
-use borrow.Author.Rules.{rules}
 use Rattle.query.proofs.answers.report_of.Goals as goal
 
 pub returns-in-Listed : goal.returns-in-Listed

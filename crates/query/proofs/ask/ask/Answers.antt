@@ -1,7 +1,6 @@
 -- `ask::ask`: the answer of each question in turn.
 use Prim.Native.Nat.{ℕ}
 use mathlib.Core.Path.{sym, ap, ap₂, ◌∙◌}
-use borrow.Author.Tests.{not-true, not-false}
 use Rattle.colour.specs.declared.panel.Asked.TheVariants as A
 use Rattle.model.specs.Sound.{long_enough}
 use Rattle.octree.proofs.Laws.Tables.Check.{both_long}
@@ -10,7 +9,6 @@ use Rattle.nearest.specs.Best.{best_answer}
 use Rattle.query.specs.Answers.{raw_wanted}
 use Rattle.query.proofs.Laws.Asked.{region_fair, centre_fair, asked_lists, asked_finds, of_kind_lem, refusal_kind}
 use Rattle.query.proofs.Laws.Asked.{short_named, refused_named, wanted_named, reply_meets}
-use borrow.Author.Rules.{rules}
 use Rattle.query.proofs.ask.ask.Goals as goal
 
 pub returns-then-not-long_enough : goal.returns-then-not-long_enough

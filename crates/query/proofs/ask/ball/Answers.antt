@@ -1,5 +1,4 @@
 -- `ask::ball`: what the entry ensures.
-use borrow.Author.Rules.{rules}
 use Rattle.model.specs.Meets.{lists}
 use Rattle.query.proofs.ask.ball.Goals as goal
 

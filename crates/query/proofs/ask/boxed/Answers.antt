@@ -1,5 +1,4 @@
 -- `ask::boxed`: what the entry ensures.
-use borrow.Author.Rules.{rules}
 use Rattle.model.specs.Meets.{lists}
 use Rattle.query.proofs.ask.boxed.Goals as goal
 

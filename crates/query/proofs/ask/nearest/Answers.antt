@@ -1,7 +1,6 @@
 -- `ask::nearest`: what the entry answers with one listing it answers with any.
 use Rattle.query.proofs.Laws.Answered.{ask_meets, ask_bounds}
 use Rattle.query.proofs.Laws.Asked.{near_named}
-use borrow.Author.Rules.{rules}
 use Rattle.model.specs.Meets.{lists}
 use Rattle.query.proofs.ask.nearest.Goals as goal
 

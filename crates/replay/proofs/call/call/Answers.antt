@@ -1,5 +1,4 @@
 -- A call is carried out by its kind, and what it gives is told as it is.
-use borrow.Author.Rules.{rules}
 use Rattle.replay.proofs.Laws.Calls.{ask_meets, change_meets, clear_meets}
 use Rattle.replay.proofs.call.call.Goals as goal
 

@@ -1,5 +1,4 @@
 -- A change is carried out by its call, and what it gives is told as it is.
-use borrow.Author.Rules.{rules}
 use Rattle.replay.specs.Calls.{change_meant}
 use Rattle.replay.proofs.Laws.Calls.{same_meets}
 use Rattle.replay.proofs.call.change.Goals as goal

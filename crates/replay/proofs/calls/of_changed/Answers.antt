@@ -4,7 +4,6 @@ use mathlib.Core.List.{[]}
 use Prim.Native.Nat.{ℕ}
 use Rattle.model.specs.Machine.{load_answer, plain, nearest_answer}
 use Rattle.samples.specs.Answers.{changed_answer}
-use borrow.Author.Rules.{rules}
 use Rattle.replay.proofs.calls.of_changed.Goals as goal
 
 pub returns : goal.returns

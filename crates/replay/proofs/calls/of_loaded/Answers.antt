@@ -2,7 +2,6 @@
 use mathlib.Core.Path.{ap₂, ◌∙◌}
 use Rattle.model.specs.Machine.{load_answer}
 use Rattle.samples.specs.Answers.{loaded_answer}
-use borrow.Author.Rules.{rules}
 use Rattle.replay.proofs.calls.of_loaded.Goals as goal
 
 pub returns : goal.returns

@@ -2,13 +2,11 @@
 use Prim.Native.Nat.{ℕ, ◌+◌, ◌-◌, ◌*◌, ◌^◌, ◌≤◌, ◌<◌}
 use mathlib.Core.Path.{◌≡◌, refl, ◌∙◌}
 use native.Mathlib.Omega.{arith}
-use borrow.Author.Rules.{rules}
 use borrow.Rule.Slice.PartMut.{same_len_mid}
 use lib.ListN.{length, take, drop, length-take, length-drop}
-use Rattle.model.specs.Tables.{pair}
 use Rattle.replay.specs.Format.{step_width, answer_width}
-use Rattle.replay.specs.Script.{script_of, steps_of}
-use Rattle.replay.proofs.Laws.Events.{Upto, begin, within, turn}
+use Rattle.replay.specs.Script.{steps_of}
+use Rattle.replay.proofs.Laws.Events.{begin, within, turn}
 use Rattle.replay.proofs.Laws.Steps.{lent_within}
 use Rattle.replay.proofs.Laws.Day.{replayed}
 use Rattle.replay.proofs.replay.hbx_replay.Goals as goal

@@ -1,16 +1,10 @@
 -- `replay::hbx_replay`: after i turns the first i steps are made.
-use Prim.Native.Nat.{ℕ, ◌+◌, ◌-◌, ◌*◌, ◌^◌, ◌≤◌, ◌<◌}
-use mathlib.Core.Path.{◌≡◌, refl, ◌∙◌}
-use native.Mathlib.Omega.{arith}
-use borrow.Author.Rules.{rules}
-use borrow.Rule.Slice.PartMut.{same_len_mid}
-use lib.ListN.{length, take, drop, length-take, length-drop}
+use Prim.Native.Nat.{◌-◌, ◌≤◌}
+use mathlib.Core.Path.{◌≡◌}
+use lib.ListN.{length}
 use Rattle.model.specs.Tables.{pair}
-use Rattle.replay.specs.Format.{step_width, answer_width}
-use Rattle.replay.specs.Script.{script_of, steps_of}
-use Rattle.replay.proofs.Laws.Events.{Upto, begin, within, turn}
-use Rattle.replay.proofs.Laws.Steps.{lent_within}
-use Rattle.replay.proofs.Laws.Day.{replayed}
+use Rattle.replay.specs.Script.{script_of}
+use Rattle.replay.proofs.Laws.Events.{Upto}
 use Rattle.replay.proofs.replay.hbx_replay.Given as goal
 
 abbrev pub invariant-loop-i : goal.invariant-loop-i

@@ -2,7 +2,6 @@
 use native.Mathlib.Omega.{arith}
 use lib.ListN.{length-take}
 use Rattle.replay.proofs.Laws.Steps.{stepped}
-use borrow.Author.Rules.{rules}
 use Rattle.replay.proofs.replay.step.Goals as goal
 
 pub slice_bounds-call-end-2 : goal.slice_bounds-call-end-2

@@ -10,7 +10,6 @@ use Rattle.replay.specs.declared.calls.Changing.TheVariants as G
 use Rattle.replay.specs.declared.calls.Call.TheVariants as C
 use Rattle.replay.specs.Script.{sample_said, first_calls}
 use Rattle.replay.proofs.Laws.Steps.{says, says_other}
-use borrow.Author.Rules.{rules}
 use Rattle.replay.proofs.script.call_in.Goals as goal
 
 pub returns-in-0 : goal.returns-in-0

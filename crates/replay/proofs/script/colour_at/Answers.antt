@@ -1,6 +1,5 @@
 -- `script::colour_at`: float by float.
 use Rattle.replay.specs.Script.{colour_at}
-use borrow.Author.Rules.{rules}
 use Rattle.replay.proofs.script.colour_at.Goals as goal
 
 pub returns : goal.returns

@@ -4,7 +4,6 @@ use lib.Ieee.{of_bits, nan}
 use lib.ListN.{get_or-eq_default}
 use Rattle.replay.specs.Script.{no_float}
 use Rattle.replay.proofs.Laws.Parts.{get_d_any}
-use borrow.Author.Rules.{rules}
 use Rattle.replay.proofs.script.float_at.Goals as goal
 
 pub returns-then-k-floats : goal.returns-then-k-floats

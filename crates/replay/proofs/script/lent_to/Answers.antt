@@ -2,7 +2,6 @@
 use native.Mathlib.Omega.{arith}
 use Rattle.replay.specs.Calls.{query_of}
 use Rattle.replay.specs.Script.{wants}
-use borrow.Author.Rules.{rules}
 use Rattle.replay.proofs.script.lent_to.Goals as goal
 
 pub returns-in-Clear : goal.returns-in-Clear

@@ -1,6 +1,5 @@
 -- `script::sample_said`: word by word.
 use Rattle.replay.specs.Script.{sample_said}
-use borrow.Author.Rules.{rules}
 use Rattle.replay.proofs.script.sample_said.Goals as goal
 
 pub returns : goal.returns

@@ -4,7 +4,6 @@ use lib.ListN.{length}
 use mathlib.Core.Path.{ap, ◌∙◌}
 use Rattle.replay.specs.Script.{sheet_in}
 use Rattle.replay.proofs.Laws.Parts.{part_clipped}
-use borrow.Author.Rules.{rules}
 use Rattle.replay.proofs.script.sheet_in.Goals as goal
 
 pub returns : goal.returns

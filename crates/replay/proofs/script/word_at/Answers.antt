@@ -1,7 +1,6 @@
 -- `script::word_at`: past the end there is nothing.
 use mathlib.Core.Path.{sym}
 use lib.ListN.{get_or-eq_default}
-use borrow.Author.Rules.{rules}
 use Rattle.replay.proofs.script.word_at.Goals as goal
 
 pub returns-else-k-words : goal.returns-else-k-words

@@ -1,8 +1,6 @@
 -- `add::add`: questions 1, 2 and 4, then what sound tables tell.
 use mathlib.Core.Bool.{true≢false}
 use mathlib.Core.Path.{refl, sym, ◌∙◌}
-use borrow.Author.Rules.{rules}
-use borrow.Author.Tests.{not-true, not-false}
 use Rattle.model.specs.Sound.{long_enough}
 use Rattle.model.specs.Machine.{lent}
 use Rattle.model.specs.Meets.{Meets}

@@ -1,7 +1,5 @@
 -- `add::add_coded`: questions 5 and 6, then the row.
 use native.Mathlib.Omega.{arith}
-use borrow.Author.Rules.{rules}
-use borrow.Author.Tests.{ltb-true, ltb-false, leb-true, leb-false}
 use Rattle.model.proofs.Tables.Numbers.{current_numbers}
 use Rattle.samples.proofs.Laws.Added.{tag_refused, row_refused, now_adding}
 use Rattle.samples.proofs.Laws.Shown.{headers_there, rows_there}

@@ -2,7 +2,6 @@
 use mathlib.Core.Path.{ap}
 use native.Mathlib.Omega.{arith}
 use lib.ListN.{length}
-use borrow.Author.Rules.{rules}
 use Rattle.model.specs.Layout.{current, sample_rows}
 use Rattle.words.proofs.Laws.Layout.Places.{rows_few}
 use Rattle.samples.specs.Answers.{changed_number}

@@ -1,10 +1,8 @@
 -- `clear::clear`: questions 1 and 3 as asked, and the tables that write gives for no samples.
-use borrow.Author.Rules.{rules}
 use mathlib.Core.Path.{sym, ◌∙◌}
 use Rattle.model.specs.Sound.{long_enough}
 use Rattle.model.specs.Meets.{Meets}
 use Rattle.samples.specs.Answers.{changed_answer}
-use borrow.Author.Tests.{not-true, not-false}
 use Rattle.samples.proofs.Laws.Cleared.{refused_short_lem, refused_settings, accepted, empty_writable}
 use Rattle.samples.proofs.clear.clear.Goals as goal
 

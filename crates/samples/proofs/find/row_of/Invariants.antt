@@ -1,7 +1,6 @@
 -- `find::row_of`: row by row, up to the one with the tag.
 use Prim.Native.Nat.{◌-◌}
-use native.Mathlib.Omega.{arith}
-use Rattle.samples.proofs.Laws.Tags.{Passed, passed_none, passed_to, passed_more, passed_all}
+use Rattle.samples.proofs.Laws.Tags.{Passed}
 use Rattle.samples.proofs.find.row_of.Given as goal
 
 abbrev pub invariant-loop-i : goal.invariant-loop-i

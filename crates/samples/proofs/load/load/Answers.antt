@@ -1,8 +1,6 @@
 -- `load::load`: questions 1, 2 and 11, then what the lines come to.
 use mathlib.Core.Bool.{true≢false}
 use mathlib.Core.Path.{refl, sym, ◌∙◌}
-use borrow.Author.Rules.{rules}
-use borrow.Author.Tests.{not-true, not-false}
 use Rattle.sheet.specs.Answers.{header_answer}
 use Rattle.sheet.proofs.Laws.Reading.Lookup.{header_says}
 use Rattle.model.specs.Machine.{lent, load_answer, nearest_answer, plain}

@@ -1,5 +1,4 @@
 -- `load::load_lines`: lines put in rows, the longest run of them that fits, why it ends there, and its tables.
-use borrow.Author.Rules.{rules}
 use native.Mathlib.Omega.{arith}
 use lib.ListN.{length}
 use Rattle.words.proofs.Laws.Layout.Places.{rows_few}

@@ -1,9 +1,8 @@
 -- `load::longest`: by halving, between rows that are acceptable and rows that are not.
-use Prim.Native.Nat.{◌-◌}
 use native.Mathlib.Omega.{arith}
 use lib.ListN.{length}
 use Rattle.words.proofs.Laws.Layout.Places.{rows_few}
-use Rattle.samples.proofs.Laws.Loaded.Halving.{Between, all_accepted, begins, after_good, before_bad, upper_half, lower_half, found}
+use Rattle.samples.proofs.Laws.Loaded.Halving.{all_accepted, begins, after_good, before_bad, upper_half, lower_half, found}
 use Rattle.samples.proofs.load.longest.Goals as goal
 
 pub acceptable-requires : goal.acceptable-requires

@@ -1,6 +1,4 @@
 -- `load::stopped`: each answer by the line where it is given.
-use borrow.Author.Rules.{rules}
-use borrow.Author.Tests.{ltb-true, ltb-false, leb-true, leb-false}
 use native.Mathlib.Omega.{arith}
 use lib.ListN.{length}
 use Rattle.sheet.specs.Answers.{line_answer}

@@ -2,7 +2,6 @@
 use Prim.Native.Nat.{◌≤◌}
 use native.Mathlib.Omega.{arith}
 use lib.ListN.{length}
-use borrow.Author.Rules.{rules}
 use Rattle.words.proofs.Laws.Layout.Places.{rows_few}
 use Rattle.octree.proofs.Laws.Tables.Check.{places_first, places_few}
 use Rattle.samples.proofs.Laws.Accepted.{accepted_lent}

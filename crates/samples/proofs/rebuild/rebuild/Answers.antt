@@ -1,5 +1,4 @@
 -- `rebuild::rebuild`: with places on the stack.
-use borrow.Author.Rules.{rules}
 use Prim.Native.Nat.{ℕ}
 use mathlib.Core.Path.{subst}
 use Rattle.model.specs.Tables.{pair}

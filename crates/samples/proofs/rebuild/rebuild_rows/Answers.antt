@@ -1,8 +1,6 @@
 -- `rebuild::rebuild_rows`: question 4 by filling in the entries.
 use mathlib.Core.Bool.{not}
 use mathlib.Core.Path.{ap}
-use borrow.Author.Rules.{rules}
-use borrow.Author.Tests.{not-false}
 use Rattle.samples.proofs.Laws.Rebuilt.{no_codes, entered, with_codes}
 use Rattle.samples.proofs.rebuild.rebuild_rows.Goals as goal
 

@@ -3,8 +3,6 @@ use mathlib.Core.Bool.{not}
 use mathlib.Core.Path.{ap}
 use native.Mathlib.Omega.{arith}
 use lib.ListN.{length}
-use borrow.Author.Rules.{rules}
-use borrow.Author.Tests.{not-false}
 use Rattle.words.proofs.Laws.Layout.Places.{rows_few}
 use Rattle.octree.specs.Steps.{fit_number}
 use Rattle.octree.proofs.Laws.Tables.Judged.{unfit}

@@ -1,5 +1,4 @@
 -- `rebuild::write_fitting`: judged, then written.
-use borrow.Author.Rules.{rules}
 use native.Mathlib.Omega.{arith}
 use lib.ListN.{length}
 use Rattle.words.proofs.Laws.Layout.Places.{rows_few}

@@ -1,6 +1,5 @@
 -- `remove::remove_sound`: the row of the tag closed, then both tables rebuilt.
 use native.Mathlib.Omega.{arith}
-use borrow.Author.Rules.{rules}
 use Rattle.model.proofs.Tables.Numbers.{current_numbers}
 use Rattle.samples.proofs.Laws.Removed.{unknown_tag, tag_removed}
 use Rattle.samples.proofs.Laws.Shown.{headers_there, rows_there, space_for}

@@ -1,10 +1,8 @@
 -- `rows::close_row`: one row a turn.
-use Prim.Native.Nat.{◌-◌}
 use mathlib.Core.Path.{ap}
 use native.Mathlib.Omega.{arith}
-use borrow.Author.Rules.{rules}
 use Rattle.model.specs.Layout.{current, sample_rows}
-use Rattle.samples.proofs.Laws.Moved.{Moved, moved_none, moved_more, moved_all}
+use Rattle.samples.proofs.Laws.Moved.{moved_none, moved_more, moved_all}
 use Rattle.samples.proofs.rows.close_row.Goals as goal
 
 pub loop-i-init : goal.loop-i-init

@@ -1,13 +1,11 @@
 -- `rows::put_lines`: the rows so far, and the good lines left, are the rows that it leaves.
-use borrow.Author.Rules.{rules}
-use Prim.Native.Nat.{◌-◌}
 use native.Mathlib.Omega.{arith}
 use lib.ListN.{length}
 use Rattle.sheet.specs.Answers.{line_answer}
 use Rattle.sheet.proofs.Laws.Reading.Lookup.{line_says}
 use Rattle.words.proofs.Laws.Layout.Places.{rows_few}
 use Rattle.samples.proofs.Laws.Loaded.Left.{line_room}
-use Rattle.samples.proofs.Laws.Loaded.Put.{PutSoFar, none_put, no_row, no_line, bad_line, next_row, puts}
+use Rattle.samples.proofs.Laws.Loaded.Put.{none_put, no_row, no_line, bad_line, next_row, puts}
 use Rattle.samples.proofs.rows.put_lines.Goals as goal
 
 pub overflow_sub-room : goal.overflow_sub-room

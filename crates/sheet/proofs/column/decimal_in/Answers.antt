@@ -1,5 +1,4 @@
 -- `column::decimal_in`: each return by the tests that led there, by laws of Laws.Reading.Digits.
-use borrow.Author.Rules.{rules}
 use mathlib.Core.Path.{sym, ap, ◌∙◌}
 use Rattle.sheet.specs.Steps.{number_is, within}
 use Rattle.sheet.proofs.Laws.Reading.Digits.{within_none, decimal_empty, leading_zero, decimal_single, decimal_plain}

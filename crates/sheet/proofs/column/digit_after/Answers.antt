@@ -1,5 +1,4 @@
 -- `column::digit_after`: each return by the tests that led there, by laws of Laws.Reading.Digits.
-use borrow.Author.Rules.{rules}
 use mathlib.Core.List.{[]}
 use mathlib.Core.Path.{sym, ap, ◌∙◌}
 use native.Mathlib.Omega.{arith}

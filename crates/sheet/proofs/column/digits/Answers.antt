@@ -1,11 +1,7 @@
 -- `column::digits`: what is left to read goes on from the number read so far.
-use borrow.Author.Rules.{rules}
-use Prim.Native.Nat.{◌-◌, ◌≤◌}
-use mathlib.Core.Path.{◌≡◌, refl, sym, ap, ◌∙◌}
+use mathlib.Core.Path.{refl, sym, ap, ◌∙◌}
 use native.Mathlib.Omega.{arith}
-use lib.ListN.{length, drop}
-use Rattle.sheet.specs.Column.{digits_after}
-use Rattle.sheet.specs.Steps.{number_is, within}
+use Rattle.sheet.specs.Steps.{number_is}
 use Rattle.sheet.proofs.Laws.Reading.Digits.{digits_stop, digits_more, digits_end}
 use Rattle.sheet.proofs.column.digits.Goals as goal
 

@@ -1,12 +1,9 @@
 -- `column::digits`: what is left to read goes on from the number read so far.
-use borrow.Author.Rules.{rules}
 use Prim.Native.Nat.{◌-◌, ◌≤◌}
-use mathlib.Core.Path.{◌≡◌, refl, sym, ap, ◌∙◌}
-use native.Mathlib.Omega.{arith}
+use mathlib.Core.Path.{◌≡◌}
 use lib.ListN.{length, drop}
 use Rattle.sheet.specs.Column.{digits_after}
-use Rattle.sheet.specs.Steps.{number_is, within}
-use Rattle.sheet.proofs.Laws.Reading.Digits.{digits_stop, digits_more, digits_end}
+use Rattle.sheet.specs.Steps.{within}
 use Rattle.sheet.proofs.column.digits.Given as goal
 
 abbrev pub invariant-loop-i : goal.invariant-loop-i

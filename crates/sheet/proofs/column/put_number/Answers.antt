@@ -1,12 +1,9 @@
 -- `column::put_number`: the places after i are written, and what is left of the number goes before them.
-use borrow.Author.Rules.{rules}
-use Prim.Native.Nat.{◌+◌, ◌-◌, ◌%◌, ◌≤◌}
-use mathlib.Core.List.{◌++◌}
-use mathlib.Core.Path.{◌≡◌, refl, sym, ◌∙◌}
+use Prim.Native.Nat.{◌+◌, ◌-◌, ◌%◌}
+use mathlib.Core.Path.{refl, sym, ◌∙◌}
 use native.Mathlib.Omega.{arith}
-use lib.ListN.{length, drop, set, length-set}
+use lib.ListN.{set, length-set}
 use lib.Seq.{length_front, length-take-le}
-use Rattle.sheet.specs.Column.{column_of}
 use Rattle.sheet.proofs.Laws.Writing.Columns.{none_written, all_written, digit_last, digit_more}
 use Rattle.sheet.proofs.column.put_number.Goals as goal
 

@@ -1,7 +1,5 @@
 -- `column::read_number`: the text after the blanks is the trimmed text.
-use borrow.Author.Rules.{rules}
 use mathlib.Core.Path.{ap, ◌∙◌}
-use native.Mathlib.Omega.{arith}
 use Rattle.sheet.specs.Column.{decimal_in, column_number}
 use Rattle.sheet.specs.Steps.{within}
 use Rattle.sheet.proofs.Laws.Parts.{part_tail}

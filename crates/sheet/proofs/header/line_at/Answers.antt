@@ -1,5 +1,4 @@
 -- `header::line_at`: the part handed on is the line.
-use borrow.Author.Rules.{rules}
 use mathlib.Core.Path.{ap, ◌∙◌}
 use native.Mathlib.Omega.{arith}
 use Rattle.sheet.specs.Line.{read_line}

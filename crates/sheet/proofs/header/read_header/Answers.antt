@@ -1,9 +1,7 @@
 -- `header::read_header`: each return by the tests that led there, by laws of Laws.Reading.Header.
-use borrow.Author.Rules.{rules}
 use mathlib.Core.Option.{some}
 use mathlib.Core.Path.{sym, ap, ◌∙◌}
 use native.Mathlib.Omega.{arith}
-use borrow.Author.Tests.{not-true, not-false}
 use lib.Seq.{length-take-le}
 use Rattle.sheet.specs.Steps.{number_is}
 use Rattle.sheet.specs.Sheet.{title}

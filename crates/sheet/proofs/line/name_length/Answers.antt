@@ -1,5 +1,4 @@
 -- `line::name_length`: each return by the tests that led there, by laws of Laws.Reading.Lines.
-use borrow.Author.Rules.{rules}
 use native.Mathlib.Omega.{arith}
 use Rattle.sheet.proofs.Laws.Parts.{part_tail}
 use Rattle.sheet.proofs.Laws.Text.{leading_most}

@@ -1,5 +1,4 @@
 -- `line::numbers`: what the columns hold, by laws of Laws.Reading.Lines.
-use borrow.Author.Rules.{rules}
 use mathlib.Core.Path.{sym, ap, ◌∙◌}
 use native.Mathlib.Omega.{arith}
 use lib.Seq.{length-take-le}

@@ -1,5 +1,4 @@
 -- `line::read_line`: each return by the tests that led there, by laws of Laws.Reading.Lines.
-use borrow.Author.Rules.{rules}
 use mathlib.Core.Path.{sym, ap, ◌∙◌}
 use native.Mathlib.Omega.{arith}
 use lib.ListN.{drop, length-take}

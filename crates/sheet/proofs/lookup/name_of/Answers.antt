@@ -1,5 +1,4 @@
 -- `lookup::name_of`: the part lies within the sheet, so that it can be handed back.
-use borrow.Author.Rules.{rules}
 use native.Mathlib.Omega.{arith}
 use Rattle.sheet.proofs.Laws.Reading.Lookup.{part_within, name_in}
 use Rattle.sheet.proofs.lookup.name_of.Goals as goal

@@ -1,10 +1,7 @@
 -- `text::blanks`: the blanks passed are those before the text.
-use borrow.Author.Rules.{rules}
-use Prim.Native.Nat.{◌≤◌, ◌-◌}
-use mathlib.Core.Path.{◌≡◌, refl, ◌∙◌}
+use mathlib.Core.Path.{refl, ◌∙◌}
 use native.Mathlib.Omega.{arith}
-use lib.ListN.{length, drop}
-use Rattle.sheet.specs.Column.{blank, trimmed}
+use Rattle.sheet.specs.Column.{blank}
 use Rattle.sheet.proofs.Laws.Text.{trimmed_blank, trimmed_stops, trimmed_end, blanks_first}
 use Rattle.sheet.proofs.text.blanks.Goals as goal
 

@@ -1,11 +1,8 @@
 -- `text::blanks`: the blanks passed are those before the text.
-use borrow.Author.Rules.{rules}
 use Prim.Native.Nat.{◌≤◌, ◌-◌}
-use mathlib.Core.Path.{◌≡◌, refl, ◌∙◌}
-use native.Mathlib.Omega.{arith}
+use mathlib.Core.Path.{◌≡◌}
 use lib.ListN.{length, drop}
-use Rattle.sheet.specs.Column.{blank, trimmed}
-use Rattle.sheet.proofs.Laws.Text.{trimmed_blank, trimmed_stops, trimmed_end, blanks_first}
+use Rattle.sheet.specs.Column.{trimmed}
 use Rattle.sheet.proofs.text.blanks.Given as goal
 
 abbrev pub invariant-loop-i : goal.invariant-loop-i

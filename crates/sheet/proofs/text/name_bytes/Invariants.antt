@@ -1,11 +1,8 @@
 -- `text::name_bytes`: the bytes passed are the name bytes that stand first.
-use borrow.Author.Rules.{rules}
 use Prim.Native.Nat.{◌+◌, ◌-◌, ◌≤◌}
 use mathlib.Core.Path.{◌≡◌}
-use native.Mathlib.Omega.{arith}
 use lib.ListN.{length, drop}
-use Rattle.sheet.specs.Line.{name_byte, leading}
-use Rattle.sheet.proofs.Laws.Text.{below_range, above_range, in_range, leading_more, leading_stops, leading_end}
+use Rattle.sheet.specs.Line.{leading}
 use Rattle.sheet.proofs.text.name_bytes.Given as goal
 
 abbrev pub invariant-loop-i : goal.invariant-loop-i

@@ -1,10 +1,7 @@
 -- `text::put_blanks`: what was passed is blank.
-use borrow.Author.Rules.{rules}
-use Prim.Native.Nat.{◌-◌, ◌≤◌}
-use mathlib.Core.List.{◌++◌}
-use mathlib.Core.Path.{◌≡◌, refl, ◌∙◌}
+use mathlib.Core.Path.{refl, ◌∙◌}
 use native.Mathlib.Omega.{arith}
-use lib.ListN.{length, drop, replicate, length-set}
+use lib.ListN.{length-set}
 use borrow.Author.Fill.{fill_none, fill_more}
 use Rattle.sheet.specs.Column.{blank}
 use Rattle.sheet.proofs.Laws.Text.{fill_all}

@@ -1,13 +1,9 @@
 -- `text::put_blanks`: what was passed is blank.
-use borrow.Author.Rules.{rules}
 use Prim.Native.Nat.{◌-◌, ◌≤◌}
 use mathlib.Core.List.{◌++◌}
-use mathlib.Core.Path.{◌≡◌, refl, ◌∙◌}
-use native.Mathlib.Omega.{arith}
-use lib.ListN.{length, drop, replicate, length-set}
-use borrow.Author.Fill.{fill_none, fill_more}
+use mathlib.Core.Path.{◌≡◌}
+use lib.ListN.{length, drop, replicate}
 use Rattle.sheet.specs.Column.{blank}
-use Rattle.sheet.proofs.Laws.Text.{fill_all}
 use Rattle.sheet.proofs.text.put_blanks.Given as goal
 
 abbrev pub invariant-loop-i : goal.invariant-loop-i

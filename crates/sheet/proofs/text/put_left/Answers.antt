@@ -1,11 +1,9 @@
 -- `text::put_left`: what was passed is the text, and the rest is blank.
-use borrow.Author.Rules.{rules}
-use Prim.Native.Nat.{◌-◌, ◌≤◌}
-use mathlib.Core.List.{◌++◌}
-use mathlib.Core.Path.{◌≡◌, refl, ◌∙◌}
+use Prim.Native.Nat.{◌-◌}
+use mathlib.Core.Path.{refl, ◌∙◌}
 use native.Mathlib.Omega.{arith}
 use borrow.Rule.Slice.PartMut.{same_len_mid}
-use lib.ListN.{length, take, drop, length-set}
+use lib.ListN.{length, length-set}
 use Rattle.sheet.specs.Column.{blank}
 use Rattle.sheet.proofs.Laws.Parts.{copy_more, left_whole}
 use Rattle.sheet.proofs.text.put_left.Goals as goal

@@ -1,10 +1,6 @@
 -- `text::same`: the texts are the same as far as they were compared.
-use borrow.Author.Rules.{rules}
-use Prim.Native.Nat.{◌-◌, ◌≤◌}
-use mathlib.Core.Path.{◌≡◌, refl, sym, ◌∙◌}
+use mathlib.Core.Path.{refl, sym, ◌∙◌}
 use native.Mathlib.Omega.{arith}
-use lib.ListN.{length, drop}
-use Rattle.sheet.specs.Sheet.{same_bytes}
 use Rattle.sheet.proofs.Laws.Text.{lengths_differ, same_more, same_stops, same_end}
 use Rattle.sheet.proofs.text.same.Goals as goal
 

@@ -1,11 +1,8 @@
 -- `text::same`: the texts are the same as far as they were compared.
-use borrow.Author.Rules.{rules}
 use Prim.Native.Nat.{◌-◌, ◌≤◌}
-use mathlib.Core.Path.{◌≡◌, refl, sym, ◌∙◌}
-use native.Mathlib.Omega.{arith}
+use mathlib.Core.Path.{◌≡◌}
 use lib.ListN.{length, drop}
 use Rattle.sheet.specs.Sheet.{same_bytes}
-use Rattle.sheet.proofs.Laws.Text.{lengths_differ, same_more, same_stops, same_end}
 use Rattle.sheet.proofs.text.same.Given as goal
 
 abbrev pub invariant-loop-i : goal.invariant-loop-i

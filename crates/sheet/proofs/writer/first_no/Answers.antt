@@ -1,5 +1,4 @@
 -- `writer::first_no`: each return by the questions that led there.
-use borrow.Author.Tests.{not-true, not-false}
 use Rattle.sheet.proofs.Laws.Writing.Lines.{no_codes, no_name, no_room, no_no}
 use Rattle.sheet.proofs.writer.first_no.Goals as goal
 

@@ -1,5 +1,4 @@
 -- `writer::name_good`: each return by the tests that led there.
-use borrow.Author.Rules.{rules}
 use Rattle.sheet.specs.Line.{name_columns}
 use Rattle.sheet.proofs.Laws.Names.{name_empty, name_too_long, name_tested}
 use Rattle.sheet.proofs.writer.name_good.Goals as goal

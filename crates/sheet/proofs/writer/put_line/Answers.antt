@@ -1,5 +1,4 @@
 -- `writer::put_line`: the numbers, the blank, the name and the newline, one after another.
-use borrow.Author.Rules.{rules}
 use mathlib.Core.Path.{◌≡◌, ◌∙◌}
 use native.Mathlib.Omega.{arith}
 use borrow.Rule.Slice.PartMut.{put_mid, same_len_mid}

@@ -1,5 +1,4 @@
 -- `writer::put_number_at`: the part that was lent comes back written.
-use borrow.Author.Rules.{rules}
 use Prim.Native.Nat.{◌+◌, ◌-◌}
 use borrow.Rule.Slice.PartMut.{same_len_mid}
 use Rattle.sheet.proofs.Laws.Writing.Lines.{column_put}

@@ -1,5 +1,4 @@
 -- `writer::put_numbers`: the four numbers are written one after another.
-use borrow.Author.Rules.{rules}
 use native.Mathlib.Omega.{arith}
 use Rattle.sheet.specs.Computes.{sheet_numbers}
 use Rattle.sheet.proofs.Laws.Writing.Lines.{numbers_written}

@@ -1,5 +1,4 @@
 -- `writer::write_line`: the first no gives the answer; where there is none, put_line wrote the line.
-use borrow.Author.Rules.{rules}
 use mathlib.Core.Path.{refl, ap}
 use Rattle.sheet.specs.Answers.{written_number}
 use Rattle.sheet.specs.Computes.{sheet_numbers}

@@ -1,5 +1,4 @@
 -- `lines::put_number_line`: a newline stands after the number.
-use borrow.Author.Rules.{rules}
 use Rattle.sheet.specs.Column.{newline}
 use Rattle.tag_list.proofs.Laws.Lines.{number_line_put}
 use Rattle.tag_list.proofs.lines.put_number_line.Goals as goal

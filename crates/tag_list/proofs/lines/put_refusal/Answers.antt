@@ -7,7 +7,6 @@ use Rattle.sheet.specs.Column.{blank}
 use native.Mathlib.Omega.{arith}
 use lib.Seq.{length-take-le}
 use Rattle.tag_list.proofs.Laws.Lines.{refusal_put}
-use borrow.Author.Rules.{rules}
 use Rattle.tag_list.proofs.lines.put_refusal.Goals as goal
 
 pub slice_bounds-put_left-end-2 : goal.slice_bounds-put_left-end-2

@@ -1,13 +1,9 @@
 -- `lines::put_tags`: a line for each tag that was passed.
-use Prim.Native.Nat.{◌-◌, ◌*◌, ◌≤◌}
-use mathlib.Core.List.{◌++◌}
-use mathlib.Core.Path.{◌≡◌, refl, ◌∙◌}
+use mathlib.Core.Path.{refl, ◌∙◌}
 use native.Mathlib.Omega.{arith}
-use lib.ListN.{length, take, drop}
 use Rattle.sheet.specs.Line.{tag_columns}
 use Rattle.model.specs.Walklist.{tag_lines}
 use Rattle.tag_list.proofs.Laws.Lines.{tags_more, tags_all}
-use borrow.Author.Rules.{rules}
 use Rattle.tag_list.proofs.lines.put_tags.Goals as goal
 
 pub loop-i-init : goal.loop-i-init

@@ -2,7 +2,6 @@
 use Rattle.model.specs.Machine.{load_answer}
 use Rattle.samples.specs.Answers.{loaded_answer}
 use Rattle.tag_list.proofs.Laws.Loading.{sheet_loaded}
-use borrow.Author.Rules.{rules}
 use Rattle.tag_list.proofs.print.load_sheet.Goals as goal
 
 pub returns : goal.returns

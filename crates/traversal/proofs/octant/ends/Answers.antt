@@ -1,12 +1,11 @@
 -- `octant::ends`: by cases.
-use Prim.Native.Nat.{ℕ, zero, suc, ◌-◌, ◌≤◌}
+use Prim.Native.Nat.{ℕ, zero, suc, ◌≤◌}
 use mathlib.Core.Bool.{Bool, true, false}
 use mathlib.Core.Path.{◌≡◌, refl, sym, ap, ap₂, ◌∙◌}
 use native.Mathlib.Omega.{arith}
 use lib.Dec.{leb}
 use Rattle.colour.specs.declared.Settings.{Settings}
 use Rattle.traversal.specs.Own.{ends_at}
-use borrow.Author.Rules.{rules}
 use Rattle.traversal.proofs.octant.ends.Goals as goal
 
 -- An octant that is taken whole, one of side 1, and any other.

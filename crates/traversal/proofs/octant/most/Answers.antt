@@ -1,7 +1,6 @@
 -- `octant::most`: the lesser of the two.
 use Prim.Native.Nat.{ℕ, ◌-◌, min}
 use mathlib.Core.Path.{◌∙◌, ap, ap₂}
-use borrow.Author.Rules.{rules}
 use Rattle.traversal.specs.Own.{own_most}
 use Rattle.traversal.proofs.octant.most.Goals as goal
 

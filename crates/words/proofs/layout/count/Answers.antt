@@ -1,6 +1,5 @@
 -- `layout::count`: the count is word 0.
 use mathlib.Core.Path.{refl}
-use native.Mathlib.Omega.{arith}
 use Rattle.words.specs.Rows.{count_in}
 use Rattle.words.proofs.layout.count.Goals as goal
 

@@ -1,6 +1,5 @@
 -- `layout::octant_child`: a word of the row.
 use native.Mathlib.Omega.{arith}
-use borrow.Author.Rules.{rules}
 use Rattle.model.specs.Layout.{Child}
 use Rattle.words.proofs.Laws.Layout.Places.{octant_place, octant_start_lem, octant_room, octant_in}
 use Rattle.words.proofs.layout.octant_child.Goals as goal

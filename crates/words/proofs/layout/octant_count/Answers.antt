@@ -1,6 +1,5 @@
 -- `layout::octant_count`: a word of the row.
 use native.Mathlib.Omega.{arith}
-use borrow.Author.Rules.{rules}
 use Rattle.model.specs.Layout.{Count}
 use Rattle.words.proofs.Laws.Layout.Places.{octant_place, octant_start_lem, octant_room, octant_in}
 use Rattle.words.proofs.layout.octant_count.Goals as goal

@@ -1,6 +1,5 @@
 -- `layout::octant_first`: the first word of the row.
 use native.Mathlib.Omega.{arith}
-use borrow.Author.Rules.{rules}
 use Rattle.words.proofs.Laws.Layout.Places.{octant_start_lem, octant_room, first_in}
 use Rattle.words.proofs.layout.octant_first.Goals as goal
 

@@ -1,9 +1,6 @@
 -- `layout::octant_is`: the row's three words, then a child's word each turn.
-use Prim.Native.Nat.{ℕ, ◌+◌, ◌-◌, ◌≤◌, ◌<◌}
-use mathlib.Core.Path.{◌≡◌}
 use native.Mathlib.Omega.{arith}
 use borrow.Author.Count.{below_more, below_none}
-use lib.ListN.{get_or}
 use Rattle.model.proofs.Tables.Numbers.{current_numbers}
 use Rattle.words.proofs.Laws.Layout.Octants.{octant_same, octant_other}
 use Rattle.words.proofs.layout.octant_is.Goals as goal

@@ -1,6 +1,5 @@
 -- `layout::octant_limit`: the lesser of what is said and what is there.
 use native.Mathlib.Omega.{arith}
-use borrow.Author.Rules.{rules}
 use Rattle.words.specs.Rows.{octant_limit}
 use Rattle.words.proofs.layout.octant_limit.Goals as goal
 

@@ -1,6 +1,4 @@
 -- `layout::octant_start`: by the numbers of the layout in use.
-use native.Mathlib.Omega.{arith}
-use borrow.Author.Rules.{rules}
 use Rattle.model.proofs.Tables.Numbers.{current_numbers}
 use Rattle.words.proofs.Laws.Layout.Places.{octant_start_lem}
 use Rattle.words.proofs.layout.octant_start.Goals as goal

@@ -1,6 +1,5 @@
 -- `layout::put_count`: one word at the front.
 use mathlib.Core.List.{[], ◌∷◌}
-use borrow.Author.Rules.{rules}
 use lib.Seq.{sets-eq}
 use Rattle.words.proofs.layout.put_count.Goals as goal
 

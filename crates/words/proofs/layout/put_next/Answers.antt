@@ -1,6 +1,5 @@
 -- `layout::put_next`: a word of the row.
 use native.Mathlib.Omega.{arith}
-use borrow.Author.Rules.{rules}
 use Rattle.model.specs.Layout.{Next}
 use Rattle.words.proofs.Laws.Layout.Places.{sample_start_lem, field_place, sample_at_lem, row_room, row_at}
 use Rattle.words.proofs.layout.put_next.Goals as goal

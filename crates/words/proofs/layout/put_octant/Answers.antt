@@ -1,10 +1,9 @@
 -- `layout::put_octant`: the row's three words, then a child's word each turn.
-use Prim.Native.Nat.{◌-◌}
 use mathlib.Core.Path.{◌∙◌}
 use native.Mathlib.Omega.{arith}
 use lib.ListN.{length-set}
 use Rattle.model.proofs.Tables.Numbers.{current_numbers}
-use Rattle.words.proofs.Laws.Layout.Octants.{ChildrenPut, children_none, children_length, children_more, octant_put}
+use Rattle.words.proofs.Laws.Layout.Octants.{children_none, children_length, children_more, octant_put}
 use Rattle.words.proofs.layout.put_octant.Goals as goal
 
 pub bounds-rows-0 : goal.bounds-rows-0

@@ -1,10 +1,6 @@
 -- `layout::put_octant`: the row's three words, then a child's word each turn.
 use Prim.Native.Nat.{◌-◌}
-use mathlib.Core.Path.{◌∙◌}
-use native.Mathlib.Omega.{arith}
-use lib.ListN.{length-set}
-use Rattle.model.proofs.Tables.Numbers.{current_numbers}
-use Rattle.words.proofs.Laws.Layout.Octants.{ChildrenPut, children_none, children_length, children_more, octant_put}
+use Rattle.words.proofs.Laws.Layout.Octants.{ChildrenPut}
 use Rattle.words.proofs.layout.put_octant.Given as goal
 
 abbrev pub invariant-loop-k : goal.invariant-loop-k

@@ -1,7 +1,6 @@
 -- `layout::put_sample`: four words of the row.
 use Prim.Native.Nat.{◌+◌}
 use native.Mathlib.Omega.{arith}
-use borrow.Author.Rules.{rules}
 use lib.ListN.{set}
 use lib.Seq.{lt-length-set}
 use Rattle.words.proofs.Laws.Layout.Places.{row_room, row_at}

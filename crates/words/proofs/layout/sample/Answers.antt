@@ -1,5 +1,4 @@
 -- `layout::sample`: its tag and its colour.
-use borrow.Author.Rules.{rules}
 use Rattle.words.specs.Rows.{sample_in}
 use Rattle.words.proofs.layout.sample.Goals as goal
 

@@ -1,6 +1,5 @@
 -- `layout::sample_budget`: the lesser of what is said and what is there.
 use native.Mathlib.Omega.{arith}
-use borrow.Author.Rules.{rules}
 use Rattle.model.specs.Layout.{current, sample_header}
 use Rattle.words.specs.Rows.{sample_budget}
 use Rattle.words.proofs.layout.sample_budget.Goals as goal

@@ -1,6 +1,5 @@
 -- `layout::sample_start`: by the numbers of the layout in use.
 use mathlib.Core.Path.{sym}
-use native.Mathlib.Omega.{arith}
 use Rattle.words.proofs.Laws.Layout.Places.{sample_start_lem}
 use Rattle.words.proofs.layout.sample_start.Goals as goal
 

@@ -1,9 +1,7 @@
 -- `zeros::are_zero`: the bits of the words that were passed are gathered.
-use Prim.Native.Nat.{◌-◌, ◌≤◌}
 use mathlib.Core.Path.{refl}
 use native.Mathlib.Omega.{arith}
-use lib.ListN.{length}
-use Rattle.words.proofs.Laws.Words.{Gathered, gathered_none, gathered_more, gathered_tells}
+use Rattle.words.proofs.Laws.Words.{gathered_none, gathered_more, gathered_tells}
 use Rattle.words.proofs.zeros.are_zero.Goals as goal
 
 pub loop-i-init : goal.loop-i-init

@@ -1,9 +1,7 @@
 -- `zeros::are_zero`: the bits of the words that were passed are gathered.
 use Prim.Native.Nat.{◌-◌, ◌≤◌}
-use mathlib.Core.Path.{refl}
-use native.Mathlib.Omega.{arith}
 use lib.ListN.{length}
-use Rattle.words.proofs.Laws.Words.{Gathered, gathered_none, gathered_more, gathered_tells}
+use Rattle.words.proofs.Laws.Words.{Gathered}
 use Rattle.words.proofs.zeros.are_zero.Given as goal
 
 abbrev pub invariant-loop-i : goal.invariant-loop-i

@@ -1,11 +1,8 @@
 -- `zeros::clear`: what was passed is 0.
-use Prim.Native.Nat.{◌-◌, ◌≤◌}
-use mathlib.Core.List.{◌++◌}
-use mathlib.Core.Path.{◌≡◌, refl, ◌∙◌}
+use mathlib.Core.Path.{refl, ◌∙◌}
 use native.Mathlib.Omega.{arith}
 use borrow.Author.Fill.{fill_none, fill_more}
-use borrow.Author.Rules.{rules}
-use lib.ListN.{length, drop, replicate, length-set}
+use lib.ListN.{length-set}
 use Rattle.words.proofs.Laws.Words.{clear_whole}
 use Rattle.words.proofs.zeros.clear.Goals as goal
 

@@ -1,12 +1,8 @@
 -- `zeros::clear`: what was passed is 0.
 use Prim.Native.Nat.{◌-◌, ◌≤◌}
 use mathlib.Core.List.{◌++◌}
-use mathlib.Core.Path.{◌≡◌, refl, ◌∙◌}
-use native.Mathlib.Omega.{arith}
-use borrow.Author.Fill.{fill_none, fill_more}
-use borrow.Author.Rules.{rules}
-use lib.ListN.{length, drop, replicate, length-set}
-use Rattle.words.proofs.Laws.Words.{clear_whole}
+use mathlib.Core.Path.{◌≡◌}
+use lib.ListN.{length, drop, replicate}
 use Rattle.words.proofs.zeros.clear.Given as goal
 
 abbrev pub invariant-loop-i : goal.invariant-loop-i
