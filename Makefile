@@ -2,11 +2,11 @@
 # make              prove every crate, and build lib/libhubeltxa.a and target/bin/walklist
 # make lib          lib/libhubeltxa.a, for include/hubeltxa.h
 # make parts        what the tests and the benchmark use: the library, the archives of rebuild and replay, walklist
-# make test         the whole test, from nothing; its last line is rt's verdict
+# make test         the whole test; its last line is rt's verdict
 # make test-long    all 2^32 floats in each channel, and more tables, calls, queries and sheets, compared with the straight scan
 # make fuzz         random calls and damaged inputs compared with the straight scan, for SECONDS=60; SEED=s again, ROUND=r alone
 # make definitions  the definitions, compared with the straight scan by computing both
-# make must-fail    every must-fail edit, also those that are not in the gate; CRATE=order for those of one crate
+# make must-fail    every must-fail edit; CRATE=order for those of one crate
 # make rules        changed rules of the reference machine, each of which must break the proof of its call
 # make believed     how many lines of definitions a reader must believe; BY=-v each definition
 # make map          draw crates.txt, as docs/architecture.svg
@@ -62,9 +62,9 @@ bench: parts
 	@target/bench/bench docs
 
 fmt:
-	@rt fmt
+	@for crate in crates/*/; do (cd $$crate && rt fmt) || exit 1; done
 	@cd rust && cargo fmt
 	@rustfmt --edition 2021 tools/definitions/generator/main.rs
 
 clean:
-	@rm -rf target lib rust/target
+	@rm -rf target lib rust/target crates/*/out

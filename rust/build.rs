@@ -1,5 +1,5 @@
 //! Tells cargo to link the static library from `lib` at the root of the repository, where `make lib` writes it. The
-//! tests also link archives from `target/staticlib`, which rt writes, and empties when it proves everything anew.
+//! tests also link archives from `target/staticlib`, where `make parts` writes them.
 
 use std::env;
 use std::path::PathBuf;

@@ -7,16 +7,14 @@ use std::collections::BTreeMap;
 use std::fmt::Write;
 
 const HEAD: &str = "\
-use mathlib.Core.Path.{_≡_, refl}
-use mathlib.Core.List.{List, [], _∷_, _++_}
-use lib.ListN.{replicate}
-use Rattle·colour.specs.Key.{key}
-use Rattle·model.specs.Computes.{computes}
-use Rattle·model.specs.Walklist.{walklistPrints}
-use Rattle·vectors·specs.specs.Harness.{words, bytes, panel, colour, sample, harness}
-use Rattle·vectors·specs.specs.Harness.{clear, add, load, remove, ball, nearest, box, Expected, expect, AsBefore, Words, sequencePart}
-use Rattle·vectors·specs.specs.Harness.{Value, value, valuesPart, number, columnValue, countValue, lineValue, writeValue}
-use Rattle·vectors·specs.specs.Harness.{nameValue, codesValue, floatsValue, panelNumbers, rowsValue, startNumber, bitOf}
+use Rattle.std.specs.Prelude.{◌≡◌, refl, List, [], ◌∷◌, ◌++◌, replicate}
+use Rattle.colour.specs.Key.{key}
+use Rattle.model.specs.Computes.{computes}
+use Rattle.model.specs.Walklist.{walklist_prints}
+use Rattle.vectors.specs.Harness.{words, bytes, panel, colour, sample, harness}
+use Rattle.vectors.specs.Harness.{clear, add, load, remove, ball, nearest, box, Expected, expect, AsBefore, Words, sequence_part}
+use Rattle.vectors.specs.Harness.{Value, value, values_part, number, column_value, count_value, line_value, write_value}
+use Rattle.vectors.specs.Harness.{name_value, codes_value, floats_value, panel_numbers, rows_value, start_number, bit_of}
 ";
 
 /// What is generated: modules of declarations, what each call or value is, and how many were compared. Where names are
@@ -92,7 +90,7 @@ impl Output {
         } else if self.only.iter().any(|only| only == name) {
             for (k, bits) in BITS.into_iter().enumerate() {
                 for i in 0..bits {
-                    let statement = format!("bitOf {k} {i} ({compared} {name}) ≡ 0");
+                    let statement = format!("bit_of {k} {i} ({compared} {name}) ≡ 0");
                     text += &theorem(&format!("{name}-bit-{k}-{i}"), name, statement);
                 }
             }
@@ -113,7 +111,7 @@ impl Output {
         let mut set = start(*sample_words, *octant_words, *bucket).expect("a first clear that is accepted");
         let mut tables = set.tables();
         let (samples, octants) = (words(&tables.0), words(&tables.1));
-        let compared = format!("sequencePart {bucket} {sample_words} {octant_words} {samples} {octants}");
+        let compared = format!("sequence_part {bucket} {sample_words} {octant_words} {samples} {octants}");
         self.count("first clear", 0);
         writeln!(self.index, "{name}\t0\tcall\tthe first clear, bucket size {bucket}").unwrap();
         let mut entries = Vec::new();
@@ -145,7 +143,7 @@ impl Output {
                 writeln!(self.index, "{name}\t{}\tvalue\t{}", k + 1, value.described).unwrap();
             }
             let entries: Vec<String> = few.iter().map(|v| format!("value ({}) {}", v.computed, v.expected)).collect();
-            self.declare(&name, "Value", &entries, "valuesPart 1");
+            self.declare(&name, "Value", &entries, "values_part 1");
         }
     }
 }

@@ -27,7 +27,7 @@ fn columns(random: &mut Random) -> Vec<Value> {
     }
     columns
         .iter()
-        .map(|column| of_text("columnValue", column, straight_scan::column(column).map(|n| vec![n])))
+        .map(|column| of_text("column_value", column, straight_scan::column(column).map(|n| vec![n])))
         .collect()
 }
 
@@ -71,7 +71,7 @@ fn line_value(line: &Vec<u8>) -> Value {
         let [red, green, blue] = sample.codes.map(u64::from);
         vec![sample.tag as u64, red, green, blue, name_length as u64]
     });
-    of_text("lineValue", line, said)
+    of_text("line_value", line, said)
 }
 
 fn sheets(random: &mut Random) -> Vec<Vec<u8>> {
@@ -103,7 +103,7 @@ fn name_value(sheet: &[u8], tag: Tag) -> Value {
     let name = sheet[part.clone()].iter().map(|&b| b as u64);
     let said: Vec<u64> = [part.start as u64, part.len() as u64].into_iter().chain(name).collect();
     let outcome = if part.is_empty() { "empty" } else { "found" };
-    value(format!("nameValue {} {tag}", bytes(sheet)), numbers(&said), outcome)
+    value(format!("name_value {} {tag}", bytes(sheet)), numbers(&said), outcome)
         .described(format!("name of {tag} in \"{}\"", sheet.escape_ascii()))
 }
 
@@ -112,7 +112,7 @@ fn write_value(random: &mut Random, colour: Codes, name: &[u8], length: usize) -
     let lent: Vec<u8> = (0..length).map(|_| random.below(256) as u8).collect();
     let mut left = lent.clone();
     let number = straight_scan::write_line(tag, colour, name, &mut left);
-    let computed = format!("writeValue (sample {tag} {}) {} {}", arguments(&colour), bytes(name), bytes(&lent));
+    let computed = format!("write_value (sample {tag} {}) {} {}", arguments(&colour), bytes(name), bytes(&lent));
     let described = format!("write {tag} {colour:?} \"{}\" over {length} bytes", name.escape_ascii());
     value(computed, format!("({number} ∷ {})", bytes(&left)), number).described(described)
 }
@@ -146,7 +146,7 @@ fn walklists(random: &mut Random) -> Vec<Value> {
     let compared = |input: &Vec<u8>, term: String| {
         let printed = straight_scan::walklist(input);
         let outcome = if printed.starts_with("REFUSED") { "refused" } else { "listed" };
-        value(format!("walklistPrints {term}"), bytes(printed.as_bytes()), outcome)
+        value(format!("walklist_prints {term}"), bytes(printed.as_bytes()), outcome)
             .described(format!("walklist of \"{}\"", input[..input.len().min(200)].escape_ascii()))
     };
     let mut values: Vec<Value> = sheets.iter().map(|s| compared(s, bytes(s))).collect();
@@ -163,13 +163,13 @@ fn walklists(random: &mut Random) -> Vec<Value> {
 
 pub fn all(output: &mut Output, random: &mut Random) {
     let sheets = sheets(random);
-    let count = |sheet: &Vec<u8>| of_text("countValue", sheet, straight_scan::header(sheet).map(|n| vec![n as u64]));
+    let count = |sheet: &Vec<u8>| of_text("count_value", sheet, straight_scan::header(sheet).map(|n| vec![n as u64]));
     let names = sheets.iter().flat_map(|s| [4, 5, 7].map(|tag| name_value(s, tag)));
     output.module();
-    output.values("columnNumber", &columns(random));
-    output.values("lineCount", &sheets.iter().map(count).collect::<Vec<_>>());
-    output.values("lineOf", &lines(random).iter().map(line_value).collect::<Vec<_>>());
-    output.values("namePart", &names.collect::<Vec<_>>());
-    output.values("writeLine", &writes(random));
-    output.values("walklistPrints", &walklists(random));
+    output.values("column_number", &columns(random));
+    output.values("line_count", &sheets.iter().map(count).collect::<Vec<_>>());
+    output.values("line_of", &lines(random).iter().map(line_value).collect::<Vec<_>>());
+    output.values("name_part", &names.collect::<Vec<_>>());
+    output.values("write_line", &writes(random));
+    output.values("walklist_prints", &walklists(random));
 }

@@ -32,7 +32,7 @@ fn codes_value(panel: [u32; 3]) -> Value {
         None => (9, [0; 3]),
     };
     let said = numbers(&[&[number], &codes[..]].concat());
-    value(format!("codesValue {}", arguments(&panel)), said, number)
+    value(format!("codes_value {}", arguments(&panel)), said, number)
 }
 
 fn panels(random: &mut Random) -> Vec<[u32; 3]> {
@@ -62,8 +62,8 @@ fn floats_value(colour: Codes) -> Value {
         Ok(panel) => (0, panel.map(f32::to_bits)),
         Err(number) => (number, [0; 3]),
     };
-    let expected = format!("(panelNumbers {number} (panel {}))", arguments(&panel));
-    value(format!("floatsValue {}", arguments(&colour)), expected, number)
+    let expected = format!("(panel_numbers {number} (panel {}))", arguments(&panel));
+    value(format!("floats_value {}", arguments(&colour)), expected, number)
 }
 
 /// The key by halving cubes from the root down, as no definition of it does.
@@ -85,13 +85,13 @@ fn key_value(colour: Codes) -> Value {
 fn rows_value(length: usize) -> Value {
     let set = Bin { samples: vec![], bucket: 1, sample_words: length, octant_words: length };
     let said = [set.sample_rows() as u64, set.octant_rows() as u64];
-    value(format!("rowsValue {length}"), numbers(&said), "some")
+    value(format!("rows_value {length}"), numbers(&said), "some")
 }
 
 /// First clears, also those that are refused, on which no sequence can follow.
 fn start_value(bucket: u32, sample_words: usize, octant_words: usize) -> Value {
     let number = straight_scan::start(sample_words, octant_words, bucket).map_or_else(|number| number, |_| 0);
-    let computed = format!("number (startNumber {bucket} {sample_words} {octant_words})");
+    let computed = format!("number (start_number {bucket} {sample_words} {octant_words})");
     value(computed, numbers(&[number as u64]), number)
 }
 
@@ -99,8 +99,8 @@ pub fn all(output: &mut Output, random: &mut Random) {
     let panels = panels(random);
     let colours = shown_colours(random);
     output.module();
-    output.values("floatsToCodes", &panels.into_iter().map(codes_value).collect::<Vec<_>>());
-    output.values("codesToFloats", &colours.iter().map(|&c| floats_value(c)).collect::<Vec<_>>());
+    output.values("floats_to_codes", &panels.into_iter().map(codes_value).collect::<Vec<_>>());
+    output.values("codes_to_floats", &colours.iter().map(|&c| floats_value(c)).collect::<Vec<_>>());
     output.values("key", &colours.iter().take(41).map(|&c| key_value(c)).collect::<Vec<_>>());
     let about = |words: usize| [words - 1, words, words + 1];
     let few = [sample_words(1), octant_words(1), octant_words(2)].map(about).concat();
