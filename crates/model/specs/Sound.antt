@@ -12,7 +12,7 @@ unfoldable pub Distinct : List Sample → Type 0
 Distinct [] = Unit {0}
 Distinct (s ∷ rest) = (has_tag s.tag rest ≡ false) × Distinct rest
 
--- Every code in range. (A tag is a 32-bit number because the words are: `tag-Fits` of proofs/.)
+-- Every code in range. (A tag is a 32-bit number because the words are: `tag_fits` of proofs/.)
 unfoldable pub CodesInRange : List Sample → Type 0
 CodesInRange [] = Unit {0}
 CodesInRange (s ∷ rest) = (codes_fit s.colour ≡ true) × CodesInRange rest

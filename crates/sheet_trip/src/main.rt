@@ -11,7 +11,7 @@ use sheet::line::{LINE_LENGTH, NAME_START, Reading, read_line};
 use sheet::lookup::name_of;
 use sheet::text::same;
 use sheet::writer::{Written, write_line};
-use std::io::{self, Print};
+use std::io::Print;
 
 // Whether two samples are the same.
 fn same_sample(a: Sample, b: Sample) -> bool
@@ -63,10 +63,10 @@ fn grey(tag: u32, code: u32) -> Sample
     }
 }
 
-// Prints the name that a sheet has for a tag, and a newline.
-fn print_name(rt: &HostRuntime, sheet: &[u8], tag: u32) -> io::Result<()> {
-    rt.write_all(name_of(sheet, tag))?;
-    rt.write_all(b"\n")
+// Prints the name that a sheet has for a tag, and a newline. Where a write fails nothing more can be said.
+fn print_name(rt: &HostRuntime, sheet: &[u8], tag: u32) {
+    let _name = rt.write_all(name_of(sheet, tag));
+    let _newline = rt.write_all(b"\n");
 }
 
 // Writes a line into a sheet, from byte `at` on.
@@ -79,21 +79,21 @@ fn put_line_at(sheet: &mut [u8], at: usize, sample: Sample, name: &[u8])
 }
 
 // Makes a sheet of three written lines, the first and the last with one tag, and prints the names that it has for three tags.
-fn print_names(rt: &HostRuntime) -> io::Result<()> {
+fn print_names(rt: &HostRuntime) {
     let mut sheet =
         *b"SWATCHES     3\n                                                                                                                                                                                          ";
     put_line_at(&mut sheet, 15, grey(7, 0), b"A001");
     put_line_at(&mut sheet, 77, grey(8, 65535), b"B002");
     put_line_at(&mut sheet, 139, grey(7, 9), b"C003");
-    print_name(rt, &sheet, 7)?;
-    print_name(rt, &sheet, 8)?;
-    print_name(rt, &sheet, 9)
+    print_name(rt, &sheet, 7);
+    print_name(rt, &sheet, 8);
+    print_name(rt, &sheet, 9);
 }
 
-fn main(rt: HostRuntime) -> io::Result<()> {
+fn main(rt: HostRuntime) {
     check::expect(comes_back(grey(0, 0), b"A"));
     check::expect(comes_back(grey(4294967295, 65535), b"A-reel-name-of-thirty-two-bytes!"));
     check::expect(!comes_back(grey(1, 65536), b"A001"));
     check::expect(!comes_back(grey(1, 1), b"A-reel-name-of-thirty-three-bytes"));
-    print_names(&rt)
+    print_names(&rt);
 }
