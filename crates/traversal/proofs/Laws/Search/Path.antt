@@ -122,8 +122,8 @@ module _ {S : Type 0} {K : Store S} {ws os : List ℕ} {p : Probe} {row : ℕ} {
 
     module _ {mask' : ℕ} (rest : mask' ≡ mask - 2 ^ k) where
       -- It is not entered.
-      pub turning-barred : {next : ℕ} {to : Spot} → Told K ws os p row spot k s next to false → Turning K ws os p row spot far most start mask' s
-      turning-barred t =
+      pub turning_barred : {next : ℕ} {to : Spot} → Told K ws os p row spot k s next to false → Turning K ws os p row spot far most start mask' s
+      turning_barred t =
           record {
             done = suc k;
             some = omega arith;
@@ -135,10 +135,10 @@ module _ {S : Type 0} {K : Store S} {ws os : List ℕ} {p : Probe} {row : ℕ} {
           }
 
       -- It was visited.
-      pub turning-visited : {next : ℕ} {to : Spot} → Told K ws os p row spot k s next to true → {s' : Searching S} → s' ≡ search_at K ws os p next to s
+      pub turning_visited : {next : ℕ} {to : Spot} → Told K ws os p row spot k s next to true → {s' : Searching S} → s' ≡ search_at K ws os p next to s
           → Turning K ws os p row spot far most start mask' s'
       unfolding search_at
-      turning-visited t is =
+      turning_visited t is =
           let room : s.entered < octant_limit current os = (told_room t).1 in
           record {
             done = suc k;
