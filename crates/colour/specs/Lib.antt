@@ -1,5 +1,6 @@
 -- Document 01, "Colours and octants", "Gestures", and what a question is.
 pub mod Colour
+pub mod Probe
 pub mod Octant
 pub mod Key
 pub mod Panel

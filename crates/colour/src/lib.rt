@@ -51,6 +51,12 @@ pub enum Query {
     Nearest(PanelColour, f32),
 }
 
+// What a search by path measures distances from: a centre.
+#[derive(Clone, Copy)]
+pub struct Probe {
+    pub centre: Colour,
+}
+
 // The colours that a ball or a box asks for, in codes.
 #[derive(Clone, Copy)]
 pub enum Region {

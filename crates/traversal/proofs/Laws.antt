@@ -1,4 +1,8 @@
 -- What the proofs of the traversals cite.
+pub mod Bits
 pub mod Rows
 pub mod Cubes
+pub mod Nearby
 pub mod Sound
+pub mod Search
+pub mod Kept

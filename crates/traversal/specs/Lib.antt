@@ -1,2 +1,8 @@
--- What every traversal of the tables reads of an octant, on any words.
+-- What every traversal of the tables reads of an octant, on any words, and the search for what is closest.
 pub mod Own
+pub mod Children
+pub mod Nearby
+pub mod Turns
+pub mod Search
+pub mod Steps
+pub mod Spot

@@ -1,4 +1,6 @@
-// What every traversal of the tables asks of an octant. Nothing in the tables is trusted.
+// What every traversal of the tables asks of an octant, and the octants that a search by path goes through. Nothing in the tables is trusted.
 #![tactic(auto)]
 
+pub mod nearby;
 pub mod octant;
+pub mod spot;

@@ -1,10 +1,11 @@
-// The octant in a row: whether its samples are gone through one by one, and how many of them at most.
+// The octant in a row: whether its samples are gone through one by one, how many of them at most, and its children.
 ghost use Rattle.std.specs.Prelude.{◌-◌, ◌<◌, ◌≤◌, min, ◌≡◌, length};
 ghost use Rattle.model.specs.Layout.{Count, current, sample_header, octant_rows};
 ghost use Rattle.words.specs.Rows.{settings_in, octant_field, sample_budget};
 ghost use Rattle.traversal.specs.Own.{own_most, ends_at};
+ghost use Rattle.traversal.specs.Children.{child_at};
 
-use words::layout::{octant_count, sample_budget, settings as settings_of};
+use words::layout::{octant_child, octant_count, sample_budget, settings as settings_of};
 
 // The depth of an octant of side 1.
 const DEPTHS: u32 = 16;
@@ -41,4 +42,12 @@ pub fn ends(samples: &[u32], octants: &[u32], whole: bool, depth: u32, row: u32)
     }
     let settings = settings_of(samples);
     octant_count(octants, row) <= settings.bucket
+}
+
+// The row of child k, or 0 for none. A search by path asks for children here.
+pub fn child_at(octants: &[u32], row: u32, k: u32) -> u32
+    requires { (row < octant_rows current (length octants.now)) × (k < 8) }
+    ensures { result ≡ child_at octants.now row k }
+{
+    octant_child(octants, row, k)
 }

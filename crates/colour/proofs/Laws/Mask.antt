@@ -11,7 +11,7 @@ use lib.Count.{count_trailing_zeros, under}
 use borrow.Author.Tests.{leb-true, leb-false, le-leb, lt-leb}
 use Rattle.colour.specs.Mask.{bit_if, mask_of}
 
-bit_most : (t : Bool) (w : ℕ) → bit_if t w ≤ w
+pub bit_most : (t : Bool) (w : ℕ) → bit_if t w ≤ w
 unfolding bit_if
 bit_most true w = omega arith
 bit_most false w = omega arith

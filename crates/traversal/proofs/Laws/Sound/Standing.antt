@@ -21,6 +21,7 @@ use Rattle.model.proofs.Tree.Order.{placed_length, order_of_length, order_most}
 use Rattle.model.proofs.Tree.Splits.{order_split, octants_split, octants_leaf, word_split, octants_within}
 use Rattle.words.specs.Rows.{octant_field, sample_budget}
 use Rattle.traversal.specs.Own.{rows_from, own_most, own_rows}
+use Rattle.traversal.specs.Children.{child_at}
 use Rattle.traversal.proofs.Laws.Sound.Each.{All, all_keep, all_order, all_kept}
 use Rattle.traversal.proofs.Laws.Sound.Shown.{Said, said_all, budget_shown, next_shown}
 use Rattle.traversal.proofs.Laws.Sound.Held.{Held, held_first, held_count, held_word, held_child, held_root}
@@ -90,6 +91,11 @@ module _ (ws os : List ℕ) (m : Machine) (shows : Shows current m (pair ws os))
     pub child_word_lem : octant_field current os at (Child k) ≡ row_or_none (child_row b j at xs k) (part j k xs)
     unfolding octant_word
     child_word_lem = held_word os b (suc j) at xs st.held st.some k l ∙ word_split b (suc j) at k xs split ∙ rw sub-one
+
+    -- The row of child k.
+    pub child_row_lem : child_at os at k ≡ row_or_none (child_row b j at xs k) (part j k xs)
+    unfolding child_at
+    child_row_lem = child_word_lem
 
     -- A child that holds a sample stands in the tree.
     pub child_stands : (visited' : ℕ) → 1 ≤ length (part j k xs) → visited' + length (part j k xs) ≤ n

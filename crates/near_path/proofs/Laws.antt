@@ -1,0 +1,7 @@
+-- What the proofs of nearest by path cite.
+pub mod Closer
+pub mod Words
+pub mod Measuring
+pub mod Starting
+pub mod Least
+pub mod Found

@@ -1,0 +1,2 @@
+-- Laws and proofs of nearest by path.
+pub mod Laws

@@ -1,0 +1,232 @@
+-- `visit::visit`, `visit::split` and `visit::siblings`: the closest child first, then the siblings that are still close enough; the search is the
+-- definition's.
+use Prim.Native.Nat.{ℕ, ◌<◌}
+use mathlib.Core.List.{List}
+use mathlib.Core.Path.{◌≡◌, sym, ap, ◌∙◌, subst}
+use native.Mathlib.Omega.{arith}
+use lib.ListN.{length}
+use lib.Pow.{pow_pos}
+use Rattle.colour.specs.declared.Probe.{Probe}
+use Rattle.colour.specs.Octant.{depths}
+use Rattle.colour.proofs.Laws.Mask.{First}
+use Rattle.traversal.specs.declared.nearby.Squares.{Squares}
+use Rattle.traversal.specs.declared.spot.Spot.{Spot}
+use Rattle.traversal.specs.declared.spot.Fork.{Fork}
+use Rattle.traversal.specs.Nearby.{turn_mask, turn_within, far_of, SmallSquares}
+use Rattle.traversal.specs.Children.{child_at}
+use Rattle.traversal.specs.Search.{Searching, search_entering, own_search}
+use Rattle.traversal.specs.Spot.{Stood, Forked, fork_of, search_at, turn_at, siblings_at, split_at}
+use Rattle.traversal.proofs.Laws.Cubes.{limit_rows}
+use Rattle.traversal.proofs.Laws.Search.Keeps.{entering_within, still_ready}
+use Rattle.traversal.proofs.Laws.Search.Spots.{fork_half, first_small, kid_small, kid_turn, kid_first, far_rising, turn_small}
+use Rattle.traversal.proofs.Laws.Search.Spots.{Told, turn_told, told_barred, told_entered, told_room, told_stood, told_depth, search_own, search_deep, search_split, turn_at_within}
+use Rattle.traversal.proofs.Laws.Search.Path.{Siblings, turning_begins, next_is, turning_barred, turning_visited, turning_ends}
+use Rattle.near_path.specs.Best.{Kept, bests}
+use Rattle.near_path.specs.Steps.{search_words, search_in, words_after, Ready}
+use Rattle.near_path.proofs.Laws.Closer.{best_steady, best_beyond}
+use Rattle.near_path.proofs.Laws.Words.{five_words, words_five, words_search}
+use Rattle.near_path.proofs.Laws.Starting.{words_ready}
+use Rattle.near_path.proofs.visit.+siblings_split_visit.Goals as goal
+use Rattle.near_path.proofs.visit.+siblings_split_visit.Goals.{siblings-In-loop-left, siblings-After-first-turn, siblings-After-reaches, split-After-reaches, split-Joined-reaches, split-then-reaches, split-else-reaches, visit-After-enter}
+
+-- What is known of the siblings when the loop begins.
+known : (ws words : List ℕ) {p : Probe} {spot : Spot} {fork : Fork} {far : Squares} → Forked p spot fork → far ≡ far_of p fork.half spot.cube.low
+    → Siblings (bests ws p) p spot fork far (search_in words).kept.distance (search_in words)
+known ws words f e =
+    record { forked = f; far_is = e; beyond = best_beyond (search_in words).kept; steady = best_steady _ _ }
+
+turning : (t : ℕ) (c : siblings-In-loop-left t) → Ready c.args.samples.now c.args.octants.now c.loop-left.search
+turning t c =
+    record { five = c.loop-left.invariant.0; search = still_ready c.requires.ready.search c.loop-left.invariant.1.limits }
+
+-- The sibling that is next, and what is told of its turn.
+found : (t : ℕ) (c : siblings-After-first-turn t)
+    → First (turn_within (search_in c.args.search.now).kept.distance c.args.spot.near c.far_of-far.result) c.loop-left.invariant.1.done 8 c.loop-left.left
+    c.first-turn.result
+found t c =
+    next_is (known c.args.samples.now c.args.search.now c.requires.forked.0 c.far_of-far.ensures) c.loop-left.invariant.1 c.loop-left-test.true
+    c.first-turn.ensures
+
+told : (t : ℕ) (c : siblings-After-reaches t)
+    → Told (bests c.args.samples.now c.args.p) c.args.samples.now c.args.octants.now c.args.p c.args.row c.args.spot c.first-turn.result
+    (search_in c.loop-left.search) c.child_at-next.result c.sibling_spot-to.result c.reaches.result
+told t c =
+    turn_told (c.child_at-next.ensures ∙ ap (child_at c.args.octants.now c.args.row) (kid_turn c.requires.forked.0 _)) c.sibling_spot-to.ensures
+    c.sum_by.ensures c.octant_limit-limit.ensures (c.reaches.ensures c.args.samples.now c.args.p)
+
+pub siblings-far_of-far-requires-clause-half_value : goal.siblings-far_of-far-requires-clause-half_value
+siblings-far_of-far-requires-clause-half_value t c = fork_half c.requires.forked.0
+
+pub siblings-turns-left-requires : goal.siblings-turns-left-requires
+siblings-turns-left-requires t c = far_rising c.requires.forked.0 c.far_of-far.ensures
+
+pub siblings-loop-left-init : goal.siblings-loop-left-init
+siblings-loop-left-init t c = (
+  c.requires.ready.five,
+  turning_begins _ _ _ _ _ _ _ _ _ c.requires.ready.search.limits
+      (c.turns-left.ensures ∙ ap (λ (n : ℕ). turn_mask n c.args.spot.near c.far_of-far.result) c.distance.ensures),
+)
+
+pub siblings-without-left-requires : goal.siblings-without-left-requires
+siblings-without-left-requires t c =
+    let f = found t (goal.at.siblings-without-left-requires t c).After-first-turn in
+    (omega (arith, f.below), f.within)
+
+pub siblings-child_at-next-requires : goal.siblings-child_at-next-requires
+siblings-child_at-next-requires t c =
+    let f = found t (goal.at.siblings-child_at-next-requires t c).After-first-turn in
+    (limit_rows _ _ c.requires.forked.1, kid_small c.requires.forked.0 _ f.below)
+
+pub siblings-sum_by-requires : goal.siblings-sum_by-requires
+siblings-sum_by-requires t c =
+    subst (λ (x : Spot). SmallSquares x.near) (sym c.sibling_spot-to.ensures) (turn_small c.requires.forked.0 _)
+
+pub siblings-visit-requires : goal.siblings-visit-requires
+siblings-visit-requires t c =
+    let at = goal.at.siblings-visit-requires t c in
+    let f = c.requires.forked.0 in
+    let d = subst (Told _ _ _ _ _ _ _ _ _ _) c.if-reaches.true (told t at.After-reaches) in (
+      omega (arith, c.decreases, told_depth d f, f.deep),
+      ((told_stood d f, (told_room d).0), (turning t at.In-loop-left, (told_room d).1)),
+    )
+
+pub siblings-loop-left-smaller-then-reaches : goal.siblings-loop-left-smaller-then-reaches
+siblings-loop-left-smaller-then-reaches t c =
+    let f = found t (goal.at.siblings-loop-left-smaller-then-reaches t c).After-first-turn in
+    omega (arith, c.without-left.ensures, f.within, pow_pos c.first-turn.result)
+
+pub siblings-loop-left-preserved-then-reaches : goal.siblings-loop-left-preserved-then-reaches
+siblings-loop-left-preserved-then-reaches t c =
+    let at = goal.at.siblings-loop-left-preserved-then-reaches t c in
+    let goes : Searching Kept → Searching Kept =
+    search_at (bests c.args.samples.now c.args.p) c.args.samples.now c.args.octants.now c.args.p c.child_at-next.result c.sibling_spot-to.result in (
+      ap length c.visit.ensures ∙ words_five (goes (search_in c.loop-left.search)),
+      turning_visited (known c.args.samples.now c.args.search.now c.requires.forked.0 c.far_of-far.ensures) c.loop-left.invariant.1 c.loop-left-test.true
+          c.first-turn.ensures c.without-left.ensures (subst (Told _ _ _ _ _ _ _ _ _ _) c.if-reaches.true (told t at.After-reaches))
+          (ap search_in c.visit.ensures ∙ words_search (goes (search_in c.loop-left.search))),
+    )
+
+pub siblings-loop-left-smaller : goal.siblings-loop-left-smaller
+siblings-loop-left-smaller t c =
+    let f = found t (goal.at.siblings-loop-left-smaller t c).After-first-turn in
+    omega (arith, c.without-left.ensures, f.within, pow_pos c.first-turn.result)
+
+pub siblings-loop-left-preserved : goal.siblings-loop-left-preserved
+siblings-loop-left-preserved t c =
+    let at = goal.at.siblings-loop-left-preserved t c in (
+      c.loop-left.invariant.0,
+      turning_barred (known c.args.samples.now c.args.search.now c.requires.forked.0 c.far_of-far.ensures) c.loop-left.invariant.1 c.loop-left-test.true
+          c.first-turn.ensures c.without-left.ensures (subst (Told _ _ _ _ _ _ _ _ _ _) c.if-reaches.false (told t at.After-reaches)),
+    )
+
+pub siblings-returns : goal.siblings-returns
+siblings-returns t c =
+    five_words c.loop-left.search c.loop-left.invariant.0
+    ∙ ap search_words
+    (turning_ends (known c.args.samples.now c.args.search.now c.requires.forked.0 c.far_of-far.ensures) c.loop-left.invariant.1 c.loop-left-test.false)
+
+-- Where the children of an octant are gone through.
+parted : {p : Probe} {spot : Spot} {fork : Fork} → (Stood p spot) × (spot.cube.depth < 16) → fork ≡ fork_of p spot.cube → Forked p spot fork
+parted s e = record { stood = s.0; deep = s.1; is = e }
+
+-- What is told of turn 0.
+closest : (t : ℕ) (c : split-After-reaches t)
+    → Told (bests c.args.samples.now c.args.p) c.args.samples.now c.args.octants.now c.args.p c.args.row c.args.spot 0 (search_in c.args.search.now)
+    c.child_at-next.result c.closest_spot-to.result c.reaches.result
+closest t c =
+    turn_told
+    (c.child_at-next.ensures ∙ ap (child_at c.args.octants.now c.args.row) (kid_first (parted c.requires.stood c.fork_of-fork.ensures)))
+    c.closest_spot-to.ensures c.sum_by.ensures c.octant_limit.ensures (c.reaches.ensures c.args.samples.now c.args.p)
+
+-- Whether or not it was entered, turn 0 was taken.
+first_turn : (t : ℕ) (c : split-Joined-reaches t)
+    → Told (bests c.args.samples.now c.args.p) c.args.samples.now c.args.octants.now c.args.p c.args.row c.args.spot 0 (search_in c.args.search.now)
+    c.child_at-next.result c.closest_spot-to.result c.reaches.result
+    → c.if-reaches.search
+    ≡ words_after (turn_at (bests c.args.samples.now c.args.p) c.args.samples.now c.args.octants.now c.args.p c.args.row c.args.spot 0) c.args.search.now
+first_turn t c d =
+    elim c.if-reaches.branch [
+      | split-then-reaches w ↦
+          w.search-is ∙ w.visit.ensures ∙ ap search_words (sym (told_entered (subst (Told _ _ _ _ _ _ _ _ _ _) w.if-reaches.true d)))
+      | split-else-reaches w ↦
+          w.search-is ∙ five_words c.args.search.now c.requires.ready.five
+          ∙ ap search_words (sym (told_barred (subst (Told _ _ _ _ _ _ _ _ _ _) w.if-reaches.false d)))
+    ]
+
+pub split-child_at-next-requires : goal.split-child_at-next-requires
+split-child_at-next-requires t c =
+    (limit_rows _ _ c.requires.row_bound, first_small (parted c.requires.stood c.fork_of-fork.ensures))
+
+pub split-sum_by-requires : goal.split-sum_by-requires
+split-sum_by-requires t c =
+    subst (λ (x : Spot). SmallSquares x.near) (sym c.closest_spot-to.ensures) (turn_small (parted c.requires.stood c.fork_of-fork.ensures) 0)
+
+pub split-visit-requires : goal.split-visit-requires
+split-visit-requires t c =
+    let f = parted c.requires.stood c.fork_of-fork.ensures in
+    let d = subst (Told _ _ _ _ _ _ _ _ _ _) c.if-reaches.true (closest t (goal.at.split-visit-requires t c).After-reaches) in (
+      omega (arith, c.decreases, told_depth d f, f.deep),
+      ((told_stood d f, (told_room d).0), (c.requires.ready, (told_room d).1)),
+    )
+
+pub split-siblings-requires : goal.split-siblings-requires
+split-siblings-requires t c =
+    let at = goal.at.split-siblings-requires t c in (
+      omega (arith, c.decreases),
+      (
+        (parted c.requires.stood c.fork_of-fork.ensures, c.requires.row_bound),
+        words_ready c.requires.ready _ (first_turn t at.Joined-reaches (closest t at.After-reaches))
+            (turn_at_within (bests c.args.samples.now c.args.p) c.args.samples.now c.args.octants.now c.args.p c.args.row c.args.spot 0 c.requires.ready.search.limits),
+      ),
+    )
+
+pub split-returns : goal.split-returns
+unfolding split_at
+split-returns t c =
+    let at = goal.at.split-returns t c in
+    c.siblings.ensures
+    ∙ ap (λ (u : Searching Kept). search_words (siblings_at (bests c.args.samples.now c.args.p) c.args.samples.now c.args.octants.now c.args.p c.args.row c.args.spot u))
+    (ap search_in (first_turn t at.Joined-reaches (closest t at.After-reaches)) ∙ words_search _)
+
+-- The words say the search once the octant is entered.
+went_in : (t : ℕ) (c : visit-After-enter t) → search_in c.enter.new.search ≡ search_entering (search_in c.args.search.now)
+went_in t c = ap search_in c.enter.ensures ∙ words_search _
+
+still : (t : ℕ) (c : visit-After-enter t) → Ready c.args.samples.now c.args.octants.now c.enter.new.search
+still t c =
+    words_ready c.requires.ready _ c.enter.ensures
+    (entering_within (bests c.args.samples.now c.args.p) c.args.samples.now c.args.octants.now c.args.p _ c.requires.search_bound c.requires.ready.search.limits)
+
+pub visit-ends-requires : goal.visit-ends-requires
+unfolding depths
+visit-ends-requires t c = (c.requires.ready.search.samples, (limit_rows _ _ c.requires.stood.1, c.requires.stood.0.within.depth))
+
+pub visit-own-requires-clause-ready : goal.visit-own-requires-clause-ready
+visit-own-requires-clause-ready t c = still t (goal.at.visit-own-requires-clause-ready t c).After-enter
+
+pub visit-returns-then-ends : goal.visit-returns-then-ends
+visit-returns-then-ends t c =
+    let ws = c.args.samples.now in
+    let os = c.args.octants.now in
+    c.own.ensures
+    ∙ ap search_words
+    (ap (own_search (bests ws c.args.p) ws os c.args.row) (went_in t (goal.at.visit-returns-then-ends t c).After-enter)
+    ∙ sym (search_own (bests ws c.args.p) ws os c.args.p c.args.row c.args.spot _ (sym c.ends.ensures ∙ c.if-ends.true)))
+
+pub visit-split-requires : goal.visit-split-requires
+visit-split-requires t c =
+    let ws = c.args.samples.now in
+    let os = c.args.octants.now in
+    let deep = search_deep (bests ws c.args.p) ws os c.args.p c.args.row c.args.spot (search_in c.args.search.now) (sym c.ends.ensures ∙ c.if-ends.false) in (
+      omega (arith, c.decreases),
+      ((c.requires.stood.0, deep), (c.requires.stood.1, still t (goal.at.visit-split-requires t c).After-enter)),
+    )
+
+pub visit-returns : goal.visit-returns
+visit-returns t c =
+    let ws = c.args.samples.now in
+    let os = c.args.octants.now in
+    c.split.ensures
+    ∙ ap search_words
+    (ap (split_at (bests ws c.args.p) ws os c.args.p c.args.row c.args.spot) (went_in t (goal.at.visit-returns t c).After-enter)
+    ∙ sym (search_split (bests ws c.args.p) ws os c.args.p c.args.row c.args.spot _ (sym c.ends.ensures ∙ c.if-ends.false)))

@@ -1,0 +1,27 @@
+-- In `visit::siblings` the siblings before `done` were taken or would change nothing, and the mask has the others. The measure of the recursion is three
+-- times the depth left, one more in `split` and two more in `visit`.
+use Prim.Native.Nat.{suc, ◌-◌, ◌*◌}
+use mathlib.Core.Path.{◌≡◌}
+use lib.ListN.{length}
+use Rattle.traversal.proofs.Laws.Search.Path.{Turning}
+use Rattle.near_path.specs.Best.{bests}
+use Rattle.near_path.specs.Steps.{search_in}
+use Rattle.near_path.proofs.visit.+siblings_split_visit.Given as goal
+
+abbrev pub decreases-siblings : goal.decreases-siblings
+decreases-siblings l = 3 * (16 - l.spot.cube.depth)
+
+abbrev pub decreases-split : goal.decreases-split
+decreases-split l = suc (3 * (16 - l.spot.cube.depth))
+
+abbrev pub decreases-visit : goal.decreases-visit
+decreases-visit l = suc (suc (3 * (16 - l.spot.cube.depth)))
+
+abbrev pub invariant-siblings-loop-left : goal.invariant-siblings-loop-left
+invariant-siblings-loop-left l =
+    (length l.search ≡ 5)
+    × Turning (bests l.samples l.p) l.samples l.octants l.p l.row l.spot l.far (search_in l.initial.search).kept.distance (search_in l.initial.search) l.left
+    (search_in l.search)
+
+abbrev pub decreases-siblings-loop-left : goal.decreases-siblings-loop-left
+decreases-siblings-loop-left l = l.left

@@ -1,0 +1,121 @@
+// The search: it recurses through octants, the depth left falling, and takes the closest child first. Its siblings are looked at once it is done: most are
+// then too far.
+ghost use Rattle.std.specs.Prelude.{◌≤◌, ◌<◌, ◌≡◌, length};
+ghost use Rattle.colour.specs.Probe.{Fine};
+ghost use Rattle.model.specs.Layout.{current, sample_header, octant_header};
+ghost use Rattle.words.specs.Rows.{octant_limit};
+ghost use Rattle.traversal.specs.Spot.{Stood, Forked, search_at, siblings_at, split_at};
+ghost use Rattle.near_path.specs.Best.{bests, best_of, best_found};
+ghost use Rattle.near_path.specs.Steps.{words_after, search_in, Ready};
+
+use crate::best::{Best, distance, enter, reaches, row as row_of, start};
+use crate::leaf::own;
+use colour::Probe;
+use colour::distance::square;
+use colour::mask::{first as first_of, without};
+use traversal::nearby::{far_of, sum_by, turns};
+use traversal::octant::{child_at, ends};
+use traversal::spot::{Fork, Spot, closest_spot, fork_of, root_spot, sibling_spot};
+use words::layout::{octant_limit, sample_rows, tag as tag_of};
+
+// The siblings of the closest child, in turn: those that are still close enough.
+#[cycle(siblings_split_visit)]
+fn siblings(
+    samples: &[u32],
+    octants: &[u32],
+    p: Probe,
+    row: u32,
+    spot: Spot,
+    fork: Fork,
+    search: &mut [u64; 5],
+)
+    requires forked { (Forked p spot fork) × (row < octant_limit current octants.now) }
+    requires ready { Ready samples.now octants.now search.old }
+    ensures { search.new
+        ≡ words_after (siblings_at (bests samples.now p) samples.now octants.now p row spot)
+        search.old }
+{
+    let far = far_of(p, spot.cube, fork.half);
+    let limit = octant_limit(octants);
+    let mut left = turns(distance(search), spot.near, far);
+    while left != 0 {
+        let turn = first_of(left);
+        left = without(left, turn);
+        let next = child_at(octants, row, fork.first ^ turn);
+        let to = sibling_spot(p, spot, fork, far, turn);
+        if reaches(search, next, limit, sum_by(to.near)) {
+            visit(samples, octants, p, next, to, search);
+        }
+    }
+}
+
+// A split octant: the closest child, and then its siblings. (In a function of its own: in `visit`, what is handed on would be copied in pieces.)
+#[cycle(siblings_split_visit)]
+fn split(samples: &[u32], octants: &[u32], p: Probe, row: u32, spot: Spot, search: &mut [u64; 5])
+    requires stood { (Stood p spot) × (spot.cube.depth < 16) }
+    requires row_bound { row < octant_limit current octants.now }
+    requires ready { Ready samples.now octants.now search.old }
+    ensures { search.new
+        ≡ words_after (split_at (bests samples.now p) samples.now octants.now p row spot)
+        search.old }
+{
+    let fork = fork_of(p, spot.cube);
+    let next = child_at(octants, row, fork.first);
+    let to = closest_spot(p, spot, fork);
+    if reaches(search, next, octant_limit(octants), sum_by(to.near)) {
+        visit(samples, octants, p, next, to, search);
+    }
+    siblings(samples, octants, p, row, spot, fork, search);
+}
+
+// Enters the octant in a row: its own samples are measured, or its children are searched.
+#[cycle(siblings_split_visit)]
+fn visit(samples: &[u32], octants: &[u32], p: Probe, row: u32, spot: Spot, search: &mut [u64; 5])
+    requires stood { (Stood p spot) × (row < octant_limit current octants.now) }
+    requires ready { Ready samples.now octants.now search.old }
+    requires search_bound { (search_in search.old).entered < octant_limit current octants.now }
+    ensures { search.new
+        ≡ words_after (search_at (bests samples.now p) samples.now octants.now p row spot)
+        search.old }
+{
+    enter(search);
+    if ends(samples, octants, false, spot.cube.depth, row) {
+        own(samples, octants, p, row, search);
+        return;
+    }
+    split(samples, octants, p, row, spot, search);
+}
+
+// What is found, with its tag. The row is tested before it is read.
+fn best_of(samples: &[u32], search: &[u64; 5]) -> Best
+    ensures { result ≡ best_of samples.now (search_in search.now).kept }
+{
+    let found = row_of(search);
+    let far = distance(search);
+    if found < (sample_rows(samples.len()) as u64) {
+        let row = found as usize;
+        return Best {
+            distance: far,
+            row: found as u32,
+            tag: tag_of(samples, row),
+        };
+    }
+    Best {
+        distance: far,
+        row: 0,
+        tag: 0,
+    }
+}
+
+// Nearest over codes: the root is entered if it is there.
+pub fn nearest(samples: &[u32], octants: &[u32], p: Probe, radius: u32) -> Best
+    requires fine { Fine p }
+    requires headed { (sample_header current ≤ length samples.now) × (octant_header current ≤ length octants.now) }
+    ensures { result ≡ best_found samples.now octants.now p radius }
+{
+    let mut search = start(square(radius));
+    if 0 < octant_limit(octants) {
+        visit(samples, octants, p, 0, root_spot(p), &mut search);
+    }
+    best_of(samples, &search)
+}

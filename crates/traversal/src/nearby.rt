@@ -1,0 +1,120 @@
+// How far the children of an octant are from a probe, channel by channel. A probe lies in, or is closest to, one half of each channel: that half is as
+// far as the whole octant, and the other, the far half, lies across the middle. So the eight children share six squares, and three are the octant's own.
+ghost use Rattle.std.specs.Prelude.{suc, ◌+◌, ◌<◌, ◌≤◌, min, ◌≡◌, leb};
+ghost use Rattle.colour.specs.Probe.{Fine};
+ghost use Rattle.colour.specs.Octant.{side_at, Within};
+ghost use Rattle.colour.specs.Mask.{bit_if};
+ghost use Rattle.traversal.specs.Nearby.{sum_by, far_square, far_of, pick_by, turned_by, turn_mask, NearFar, SmallSquares};
+
+use colour::distance::square;
+use colour::{Cube, Probe};
+
+// What each channel adds to a d².
+#[derive(Clone, Copy)]
+pub struct Squares {
+    pub red: u64,
+    pub green: u64,
+    pub blue: u64,
+}
+
+// Their sum.
+pub fn sum_by(v: Squares) -> u64
+    requires { SmallSquares v }
+    ensures { result ≡ sum_by v }
+{
+    v.red + v.green + v.blue
+}
+
+// The square of how far a code is from the far half.
+fn far_square(x: u32, middle: u32) -> u64
+    requires { (x ≤ 65535) × (middle ≤ 65536) }
+    ensures { result ≡ far_square x middle }
+{
+    if middle <= x {
+        square(x - middle + 1)
+    } else {
+        square(middle - x)
+    }
+}
+
+// What the far halves of an octant of side over 1 add. The caller looks up the children's side.
+pub fn far_of(p: Probe, cube: Cube, half: u32) -> Squares
+    requires fine { (Fine p) × (Within cube) }
+    requires depth_bound { cube.depth < 16 }
+    requires half_value { half ≡ side_at (suc cube.depth) }
+    ensures { result ≡ far_of p half cube.low }
+{
+    let low = cube.low;
+    Squares {
+        red: far_square(p.centre.red, low.red + half),
+        green: far_square(p.centre.green, low.green + half),
+        blue: far_square(p.centre.blue, low.blue + half),
+    }
+}
+
+// The first if a bit is 0, else the second.
+fn pick(bit: u32, near: u64, far: u64) -> u64
+    ensures { result ≡ pick_by bit near far }
+{
+    if bit == 0 { near } else { far }
+}
+
+// At turn m: the far half in the channels of the bits of m.
+pub fn turned(near: Squares, far: Squares, m: u32) -> Squares
+    ensures { result ≡ turned_by near far m }
+{
+    Squares {
+        red: pick(m % 2, near.red, far.red),
+        green: pick(m / 2 % 2, near.green, far.green),
+        blue: pick(m / 4 % 2, near.blue, far.blue),
+    }
+}
+
+// The lesser of two numbers.
+pub fn least(a: u64, b: u64) -> u64
+    ensures { result ≡ min a b }
+{
+    if a < b { a } else { b }
+}
+
+// The weight if three squares add up to no more than the most, else 0.
+fn within(red: u64, green: u64, blue: u64, most: u64, weight: u32) -> u32
+    requires { (red ≤ 4294967296) × ((green ≤ 4294967296) × (blue ≤ 4294967296)) }
+    ensures is { result ≡ bit_if (leb (red + green + blue) most) weight }
+    ensures bounded { result ≤ weight }
+{
+    if red + green + blue <= most {
+        weight
+    } else {
+        0
+    }
+}
+
+// The turns past the first whose children are no farther than the most, each a bit. Nothing branches.
+fn turns_within(most: u64, near: Squares, far: Squares) -> u32
+    requires { NearFar near far }
+    ensures { result ≡ turn_mask most near far }
+{
+    within(far.red, near.green, near.blue, most, 2)
+        + within(near.red, far.green, near.blue, most, 4)
+        + within(far.red, far.green, near.blue, most, 8)
+        + within(near.red, near.green, far.blue, most, 16)
+        + within(far.red, near.green, far.blue, most, 32)
+        + within(near.red, far.green, far.blue, most, 64)
+        + within(far.red, far.green, far.blue, most, 128)
+}
+
+// The same, with an early return: most octants have no such sibling. The test is strict, because at the same d² an octant in a lower row comes first.
+pub fn turns(most: u64, near: Squares, far: Squares) -> u32
+    requires { NearFar near far }
+    ensures { result ≡ turn_mask most near far }
+{
+    let rise = least(
+        far.red - near.red,
+        least(far.green - near.green, far.blue - near.blue),
+    );
+    if most < near.red + near.green + near.blue + rise {
+        return 0;
+    }
+    turns_within(most, near, far)
+}

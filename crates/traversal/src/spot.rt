@@ -1,0 +1,79 @@
+// Where a search by path stands, and its ways on. What an octant's channels add to its closest d² is handed down: the closest child adds as much, and
+// each of its siblings adds what the far halves do in some channels.
+ghost use Rattle.std.specs.Prelude.{◌<◌, ◌≡◌};
+ghost use Rattle.colour.specs.Probe.{Fine};
+ghost use Rattle.colour.specs.Octant.{root_cube, Within};
+ghost use Rattle.traversal.specs.Nearby.{far_of};
+ghost use Rattle.traversal.specs.Spot.{spot_at, fork_of, turn_spot, Forked};
+
+use crate::nearby::{Squares, turned};
+use colour::nearby::closest_child;
+use colour::octant::{child, root};
+use colour::{Cube, Probe};
+
+// An octant's cube, and what each of its channels adds to its closest d². (Its row goes beside it: in here it would be copied more often.)
+#[derive(Clone, Copy)]
+pub struct Spot {
+    pub cube: Cube,
+    pub near: Squares,
+}
+
+// The side of an octant's children, and the closest of them.
+#[derive(Clone, Copy)]
+pub struct Fork {
+    pub half: u32,
+    pub first: u32,
+}
+
+// The root, which holds every probe.
+pub fn root_spot(p: Probe) -> Spot
+    requires { Fine p }
+    ensures { result ≡ spot_at p root_cube }
+{
+    Spot {
+        cube: root(),
+        near: Squares {
+            red: 0,
+            green: 0,
+            blue: 0,
+        },
+    }
+}
+
+// At an octant of side over 1: its children's side, and the closest child. The side is halved: no table is read.
+pub fn fork_of(p: Probe, cube: Cube) -> Fork
+    requires fine { (Fine p) × (Within cube) }
+    requires depth_bound { cube.depth < 16 }
+    ensures { result ≡ fork_of p cube }
+{
+    let half = cube.side / 2;
+    Fork {
+        half,
+        first: closest_child(p.centre, cube, half),
+    }
+}
+
+// The closest child: it adds what the octant does.
+pub fn closest_spot(p: Probe, spot: Spot, fork: Fork) -> Spot
+    requires { Forked p spot fork }
+    ensures { result ≡ turn_spot p spot 0 }
+{
+    let near = spot.near;
+    Spot {
+        cube: child(spot.cube, fork.half, fork.first),
+        near,
+    }
+}
+
+// The sibling of turn m, which lies in the far halves of the channels of the bits of m.
+pub fn sibling_spot(p: Probe, spot: Spot, fork: Fork, far: Squares, m: u32) -> Spot
+    requires forked { Forked p spot fork }
+    requires far_value { far ≡ far_of p fork.half spot.cube.low }
+    ensures { result ≡ turn_spot p spot m }
+{
+    let k = fork.first ^ m;
+    Spot {
+        cube: child(spot.cube, fork.half, k),
+        near: turned(spot.near, far, m),
+    }
+}
