@@ -58,6 +58,7 @@ std::vector<std::string> machine() {
       "Processor: " + said("/proc/cpuinfo", "model name") + ", " + std::to_string(sysconf(_SC_NPROCESSORS_ONLN)) +
           " cores, " + memory(),
       "Kernel: " + std::string(system.sysname) + " " + system.release + ", " + system.machine,
+      "The library: proved and built with " KIT,
       "C++: " + compiler() + ", `-O3`",
       "nanoflann: " + nanoflann_version(),
       "FLANN: " + flann_version(),
