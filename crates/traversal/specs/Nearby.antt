@@ -37,13 +37,13 @@ unfoldable pub far_of : Probe → ℕ → Colour → Squares
 far_of p s low = squares_by (λ h. far_square (code_in h p.centre) (code_in h low + s))
 
 -- The first if a bit is 0, else the second.
-unfoldable pub pick_by : ℕ → ℕ → ℕ → ℕ
-pick_by zero near far = near
-pick_by (suc b) near far = far
+unfoldable pub by_bit : ℕ → ℕ → ℕ → ℕ
+by_bit zero near far = near
+by_bit (suc b) near far = far
 
 -- At turn m: the far half in the channels of the bits of m, and the near half, which is as far as the whole octant, in the others.
 unfoldable pub turned_by : Squares → Squares → ℕ → Squares
-turned_by near far m = squares_by (λ h. pick_by (m / bit_weight h % 2) (square_in h near) (square_in h far))
+turned_by near far m = squares_by (λ h. by_bit (m / bit_weight h % 2) (square_in h near) (square_in h far))
 
 -- Whether turn m is a sibling's, and its child is no farther than the most.
 unfoldable pub turn_within : ℕ → Squares → Squares → ℕ → Bool

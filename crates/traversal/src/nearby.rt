@@ -4,7 +4,7 @@ ghost use Rattle.std.specs.Prelude.{suc, ◌+◌, ◌<◌, ◌≤◌, min, ◌�
 ghost use Rattle.colour.specs.Probe.{Fine};
 ghost use Rattle.colour.specs.Octant.{side_at, Within};
 ghost use Rattle.colour.specs.Mask.{bit_if};
-ghost use Rattle.traversal.specs.Nearby.{sum_by, far_square, far_of, pick_by, turned_by, turn_mask, NearFar, SmallSquares};
+ghost use Rattle.traversal.specs.Nearby.{sum_by, far_square, far_of, by_bit, turned_by, turn_mask, NearFar, SmallSquares};
 
 use colour::distance::square;
 use colour::{Cube, Probe};
@@ -53,8 +53,8 @@ pub fn far_of(p: Probe, cube: Cube, half: u32) -> Squares
 }
 
 // The first if a bit is 0, else the second.
-fn pick(bit: u32, near: u64, far: u64) -> u64
-    ensures { result ≡ pick_by bit near far }
+fn by_bit(bit: u32, near: u64, far: u64) -> u64
+    ensures { result ≡ by_bit bit near far }
 {
     if bit == 0 { near } else { far }
 }
@@ -64,9 +64,9 @@ pub fn turned(near: Squares, far: Squares, m: u32) -> Squares
     ensures { result ≡ turned_by near far m }
 {
     Squares {
-        red: pick(m % 2, near.red, far.red),
-        green: pick(m / 2 % 2, near.green, far.green),
-        blue: pick(m / 4 % 2, near.blue, far.blue),
+        red: by_bit(m % 2, near.red, far.red),
+        green: by_bit(m / 2 % 2, near.green, far.green),
+        blue: by_bit(m / 4 % 2, near.blue, far.blue),
     }
 }
 

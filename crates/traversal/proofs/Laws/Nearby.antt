@@ -18,7 +18,7 @@ use Rattle.colour.specs.Region.{closest_code, closest}
 use Rattle.colour.specs.Mask.{bit_if, mask_of}
 use Rattle.colour.specs.Steps.{closest_square}
 use Rattle.colour.specs.Nearby.{closest_child}
-use Rattle.traversal.specs.Nearby.{square_in, squares_by, sum_by, near_of, far_gap, far_square, far_of, pick_by, turned_by, turn_within, turn_mask, NearFar, SmallSquares}
+use Rattle.traversal.specs.Nearby.{square_in, squares_by, sum_by, near_of, far_gap, far_square, far_of, by_bit, turned_by, turn_within, turn_mask, NearFar, SmallSquares}
 use Rattle.colour.proofs.Laws.Channels.{sum_same}
 use Rattle.colour.proofs.Laws.Octants.{child_code}
 use Rattle.colour.proofs.Laws.Gaps.{closest_low, closest_high, closest_self}
@@ -153,8 +153,8 @@ differ_one (suc (suc x)) h = absurd (omega arith)
 
 -- A half, by whether it is the other one.
 half_picked : (x s low b : ℕ) → 1 ≤ s → b < 2
-    → closest_square x s (low + differ (near_bit x (low + s)) b * s) ≡ pick_by b (closest_square x (s + s) low) (far_square x (low + s))
-unfolding pick_by
+    → closest_square x s (low + differ (near_bit x (low + s)) b * s) ≡ by_bit b (closest_square x (s + s) low) (far_square x (low + s))
+unfolding by_bit
 half_picked x s low zero some h = half_near x s low some _ (differ_none _)
 half_picked x s low (suc zero) some h = half_far x s low some _ (differ_one _ (near_bit_small x (low + s)))
 half_picked x s low (suc (suc b)) some h = absurd (omega arith)
@@ -184,7 +184,7 @@ child_near p s low m some =
     (child_code s (bit_xor first m) low h
     ∙ ap (λ (n : ℕ). code_in h low + n * s) (xor_bit first m h ∙ ap (λ (n : ℕ). differ n bit) (first_bit c s low h)))
     ∙ half_picked (code_in h c) s (code_in h low) bit some (omega arith)
-    ∙ sym (ap₂ (pick_by bit) (square_by (λ g. closest_square (code_in g c) (s + s) (code_in g low)) h) (square_by (λ g. far_square (code_in g c) (code_in g low + s)) h)))
+    ∙ sym (ap₂ (by_bit bit) (square_by (λ g. closest_square (code_in g c) (s + s) (code_in g low)) h) (square_by (λ g. far_square (code_in g c) (code_in g low + s)) h)))
 
 -- d² to an octant's closest colour is their sum.
 pub near_sum : (p : Probe) (s : ℕ) (low : Colour) → sum_by (near_of p s low) ≡ distance p.centre (closest p.centre s low)
@@ -193,7 +193,7 @@ near_sum p s low = sum_same _ _ (λ h. square_by (λ g. closest_square (code_in 
 
 -- At turn 0 nothing is turned.
 pub turned_none : (near far : Squares) → turned_by near far 0 ≡ near
-unfolding turned_by squares_by pick_by square_in bit_weight
+unfolding turned_by squares_by by_bit square_in bit_weight
 turned_none near far = refl
 
 -- A half is no closer than the whole, and no square is too large.
@@ -232,18 +232,18 @@ near_far p s low fine room =
     }
 
 -- Whichever is picked is no more than the far one.
-pick_most : (b near far : ℕ) → near ≤ far → pick_by b near far ≤ far
-unfolding pick_by
-pick_most zero near far h = h
-pick_most (suc b) near far h = omega arith
+by_bit_most : (b near far : ℕ) → near ≤ far → by_bit b near far ≤ far
+unfolding by_bit
+by_bit_most zero near far h = h
+by_bit_most (suc b) near far h = omega arith
 
 pub turned_small : (near far : Squares) (m : ℕ) → NearFar near far → SmallSquares (turned_by near far m)
 unfolding turned_by squares_by square_in
 turned_small near far m r =
     record {
-      red = omega (arith, pick_most (m / bit_weight Red % 2) near.red far.red r.red, r.small.red);
-      green = omega (arith, pick_most (m / bit_weight Green % 2) near.green far.green r.green, r.small.green);
-      blue = omega (arith, pick_most (m / bit_weight Blue % 2) near.blue far.blue r.blue, r.small.blue);
+      red = omega (arith, by_bit_most (m / bit_weight Red % 2) near.red far.red r.red, r.small.red);
+      green = omega (arith, by_bit_most (m / bit_weight Green % 2) near.green far.green r.green, r.small.green);
+      blue = omega (arith, by_bit_most (m / bit_weight Blue % 2) near.blue far.blue r.blue, r.small.blue);
     }
 
 -- The mask of the turns, bit by bit.
@@ -254,7 +254,7 @@ module _ (most : ℕ) (near far : Squares) where
   pub turn_bits : bit far.red near.green near.blue 2 + bit near.red far.green near.blue 4 + bit far.red far.green near.blue 8
       + bit near.red near.green far.blue 16 + bit far.red near.green far.blue 32 + bit near.red far.green far.blue 64
       + bit far.red far.green far.blue 128 ≡ turn_mask most near far
-  unfolding turn_mask turn_within mask_of children bit_if sum_by sum_of turned_by squares_by square_in pick_by bit_weight
+  unfolding turn_mask turn_within mask_of children bit_if sum_by sum_of turned_by squares_by square_in by_bit bit_weight
   turn_bits = simp zero-add
 
   -- None, where even the closest far half is past it.
@@ -280,21 +280,21 @@ module _ (most : ℕ) (near far : Squares) where
   turn_farther m h e = leb-false _ _ (rw (lt-ltb 0 m h) at e)
 
 -- By the bit.
-pub pick_near : (b near far : ℕ) → b ≡ 0 → near ≡ pick_by b near far
-unfolding pick_by
-pick_near zero near far e = refl
-pick_near (suc b) near far e = absurd (omega arith)
+pub by_bit_near : (b near far : ℕ) → b ≡ 0 → near ≡ by_bit b near far
+unfolding by_bit
+by_bit_near zero near far e = refl
+by_bit_near (suc b) near far e = absurd (omega arith)
 
-pub pick_far : (b near far : ℕ) → (b ≡ 0 → ⊥) → far ≡ pick_by b near far
-unfolding pick_by
-pick_far zero near far e = absurd (e refl)
-pick_far (suc b) near far e = refl
+pub by_bit_far : (b near far : ℕ) → (b ≡ 0 → ⊥) → far ≡ by_bit b near far
+unfolding by_bit
+by_bit_far zero near far e = absurd (e refl)
+by_bit_far (suc b) near far e = refl
 
 -- The channels of a turn.
-pub turned_is : (near far : Squares) (m : ℕ) {red green blue : ℕ} → red ≡ pick_by (m % 2) near.red far.red → green ≡ pick_by (m / 2 % 2) near.green far.green
-    → blue ≡ pick_by (m / 4 % 2) near.blue far.blue → record { red = red; green = green; blue = blue } ≡ turned_by near far m
+pub turned_is : (near far : Squares) (m : ℕ) {red green blue : ℕ} → red ≡ by_bit (m % 2) near.red far.red → green ≡ by_bit (m / 2 % 2) near.green far.green
+    → blue ≡ by_bit (m / 4 % 2) near.blue far.blue → record { red = red; green = green; blue = blue } ≡ turned_by near far m
 unfolding turned_by squares_by square_in bit_weight
-turned_is near far m r g b = cc (r ∙ ap (λ (n : ℕ). pick_by (n % 2) near.red far.red) (sym (div-one m)), g, b)
+turned_is near far m r g b = cc (r ∙ ap (λ (n : ℕ). by_bit (n % 2) near.red far.red) (sym (div-one m)), g, b)
 
 -- The root holds every colour: it adds nothing.
 none_near : (x : ℕ) → x ≤ 65535 → 0 ≡ closest_square x 65536 0

@@ -4,4 +4,4 @@ use Rattle.traversal.proofs.nearby.turned.Goals as goal
 
 pub returns : goal.returns
 returns c =
-    turned_is _ _ _ c.pick.ensures c.pick-2.ensures c.pick-3.ensures
+    turned_is _ _ _ c.by_bit.ensures c.by_bit-2.ensures c.by_bit-3.ensures
