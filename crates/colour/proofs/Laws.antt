@@ -13,3 +13,4 @@ pub mod Mask
 pub mod Nearby
 pub mod Halves
 pub mod Questions
+pub mod Refused

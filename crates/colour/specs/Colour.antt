@@ -1,6 +1,6 @@
 -- Codes, colours and their distance (document 01, "Colours and octants"; d² from "Picks").
 use Rattle.std.specs.Prelude.{ℕ, ◌+◌, ◌-◌, ◌*◌, ◌%◌, ◌^◌, ◌≤◌, Bool, ◌&&◌, leb, ltb}
-use Rattle.colour.specs.declared.Colour.{Colour}
+use Rattle.colour.specs.Channels.{Colour}
 
 -- The three channels, so that a fact about a channel is stated once.
 pub data Channel : Type 0 where

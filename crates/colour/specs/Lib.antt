@@ -1,4 +1,5 @@
 -- Document 01, "Colours and octants", "Gestures", and what a question is.
+pub mod Channels
 pub mod Colour
 pub mod Probe
 pub mod Octant

@@ -1,7 +1,8 @@
 -- How far the children of an octant are from a colour.
 use Rattle.std.specs.Prelude.{ℕ, ◌+◌, leb}
-use Rattle.colour.specs.declared.Colour.{Colour}
-use Rattle.colour.specs.declared.nearby.Gaps.{Gaps}
+use Rattle.colour.specs.Channels.{Colour}
+use Rattle.colour.specs.declared.Channels.{Channels}
+use Rattle.colour.specs.declared.overlap.Halves.{Halves}
 use Rattle.colour.specs.Colour.{code_in, sum_of}
 use Rattle.colour.specs.Octant.{bit_weight}
 use Rattle.colour.specs.Mask.{bit_if}
@@ -10,6 +11,10 @@ use Rattle.colour.specs.Steps.{closest_square, halves_of, of_channel, child_sum,
 -- The child, of side s, of the octant at low that a colour lies in or is closest to: in each channel the upper half where the code is at the middle or past it.
 unfoldable pub closest_child : Colour → ℕ → Colour → ℕ
 closest_child c s low = sum_of (λ h. bit_if (leb (code_in h low + s) (code_in h c)) (bit_weight h))
+
+-- Six squares, two for each channel.
+abbrev pub Gaps : Type 0
+Gaps = Channels Halves
 
 -- What each half of each channel adds to the closest d² of a child, of side s, of the octant at low.
 unfoldable pub gaps_of : Colour → ℕ → Colour → Gaps
@@ -22,7 +27,7 @@ gaps_of c s low =
 
 -- Child k's sum: d² to its closest colour (`closest_by_lem` of proofs/Laws/Nearby.antt).
 unfoldable pub closest_by : Gaps → ℕ → ℕ
-closest_by g k = child_sum (of_channel g.red g.green g.blue) k
+closest_by g k = child_sum (of_channel g) k
 
 -- All are squares of codes at most.
 pub record SmallGaps (g : Gaps) : Type 0 where

@@ -1,6 +1,6 @@
 -- Octants (document 01, "Colours and octants"). An octant is given by its side s, or by j where the side is 2 ^ j, and its least colour.
 use Rattle.std.specs.Prelude.{ℕ, suc, ◌+◌, ◌-◌, ◌*◌, ◌/◌, ◌%◌, ◌^◌, ◌≤◌, ◌<◌, Bool, ◌&&◌, ◌≡◌, leb, ltb}
-use Rattle.colour.specs.declared.Colour.{Colour}
+use Rattle.colour.specs.Channels.{Colour}
 use Rattle.colour.specs.declared.Cube.{Cube}
 use Rattle.colour.specs.Colour.{Channel, code_in, colour_by, each, sum_of, black}
 

@@ -1,16 +1,11 @@
 -- Panel floats to codes and back (document 01, "Gestures"). A float's value v is a whole number over a power of two, m * up e / down e.
-use Rattle.std.specs.Prelude.{ℕ, ◌*◌, ◌/◌, Bool, true, false, not, ◌&&◌, ◌||◌, [], ◌∷◌, ◌≡◌, ltb, eqb, Float}
+use Rattle.std.specs.Prelude.{ℕ, Option, Some, None, Result, Ok, Err, ◌*◌, ◌/◌, Bool, true, false, not, ◌&&◌, ◌||◌, [], ◌∷◌, ◌≡◌, ltb, eqb, Float}
 use Rattle.std.specs.Float.{nan, inf, fin, binary32}
 use Rattle.std.specs.Float.Ieee.{up, down, round}
 use Rattle.std.specs.Float.Ieee.Exact.{HasValue}
-use Rattle.colour.specs.declared.Colour.{Colour}
-use Rattle.colour.specs.declared.PanelColour.{PanelColour}
-use Rattle.colour.specs.declared.panel.Code.{Code}
-use Rattle.colour.specs.declared.panel.Code.TheVariants as C
-use Rattle.colour.specs.declared.panel.Codes.{Codes}
-use Rattle.colour.specs.declared.panel.Codes.TheVariants as Cs
-use Rattle.colour.specs.declared.panel.Floats.{Floats}
-use Rattle.colour.specs.declared.panel.Floats.TheVariants as Fs
+use Rattle.colour.specs.Channels.{Colour}
+use Rattle.colour.specs.Channels.{PanelColour}
+use Rattle.colour.specs.declared.refusal.Refusal.{Refusal}
 use Rattle.colour.specs.declared.refusal.Refusal.TheVariants as R
 use Rattle.colour.specs.Colour.{codes_fit, black}
 use Rattle.colour.specs.Question.{asks, first_no}
@@ -52,20 +47,34 @@ shown code = round binary32 false code 65536
 unfoldable pub shown_colour : Colour → PanelColour
 shown_colour c = record { red = shown c.red; green = shown c.green; blue = shown c.blue }
 
--- The code of a channel or of a radius, as an enum.
-unfoldable pub answer_if : Bool → Float → Code
-answer_if true v = C.Is (code_of v)
-answer_if false v = C.OutOfRange
+-- The code of a channel or of a radius, where it is good.
+unfoldable pub answer_if : Bool → Float → Option ℕ
+answer_if true v = Some (code_of v)
+answer_if false v = None
 
--- The codes of a panel colour, as an enum.
-unfoldable pub codes_if : Bool → PanelColour → Codes
-codes_if true p = Cs.Are (codes_of p)
-codes_if false p = Cs.Refused R.OutOfRange
+-- The same, with the refusal of question 9.
+unfoldable pub channel_if : Bool → Float → Result ℕ Refusal
+channel_if true v = Ok (code_of v)
+channel_if false v = Err R.OutOfRange
 
--- A colour as floats, as an enum.
-unfoldable pub floats_if : Bool → Colour → Floats
-floats_if true c = Fs.Are (shown_colour c)
-floats_if false c = Fs.Refused R.Code
+-- The codes of a panel colour, or the refusal.
+unfoldable pub codes_if : Bool → PanelColour → Result Colour Refusal
+codes_if true p = Ok (codes_of p)
+codes_if false p = Err R.OutOfRange
+
+-- A word that is a code, and a colour that is in range, or the refusal of question 4.
+unfoldable pub code_if : Bool → ℕ → Result ℕ Refusal
+code_if true x = Ok x
+code_if false x = Err R.Code
+
+unfoldable pub fit_if : Bool → Colour → Result Colour Refusal
+fit_if true c = Ok c
+fit_if false c = Err R.Code
+
+-- A colour as floats, or the refusal.
+unfoldable pub floats_if : Bool → Colour → Result PanelColour Refusal
+floats_if true c = Ok (shown_colour c)
+floats_if false c = Err R.Code
 
 -- Floats to codes: all that the call gives back.
 pub record CodesAnswer : Type 0 where
@@ -76,10 +85,10 @@ pub record CodesAnswer : Type 0 where
 unfoldable pub floats_to_codes : PanelColour → CodesAnswer
 floats_to_codes p = record { number = first_no (asks 9 (panel_good p) ∷ []); codes = elim (panel_good p) [ true ↦ codes_of p | false ↦ black ] }
 
--- The paper's number and values for each case of the enum that answers it.
-unfoldable pub codes_answer : Codes → CodesAnswer
-codes_answer (Cs.Are c) = record { number = 0; codes = c }
-codes_answer (Cs.Refused r) = record { number = refusal_number r; codes = black }
+-- The paper's number and values for each case of the answer.
+unfoldable pub codes_answer : Result Colour Refusal → CodesAnswer
+codes_answer (Ok c) = record { number = 0; codes = c }
+codes_answer (Err r) = record { number = refusal_number r; codes = black }
 
 -- Codes to floats: all that the call gives back.
 pub record FloatsAnswer : Type 0 where
@@ -90,10 +99,10 @@ pub record FloatsAnswer : Type 0 where
 unfoldable pub codes_to_floats : Colour → FloatsAnswer
 codes_to_floats c = record { number = first_no (asks 4 (codes_fit c) ∷ []); floats = shown_colour (elim (codes_fit c) [ true ↦ c | false ↦ black ]) }
 
--- The paper's number and values for each case of the enum that answers it.
-unfoldable pub floats_answer : Floats → FloatsAnswer
-floats_answer (Fs.Are p) = record { number = 0; floats = p }
-floats_answer (Fs.Refused r) = record { number = refusal_number r; floats = shown_colour black }
+-- The paper's number and values for each case of the answer.
+unfoldable pub floats_answer : Result PanelColour Refusal → FloatsAnswer
+floats_answer (Ok p) = record { number = 0; floats = p }
+floats_answer (Err r) = record { number = refusal_number r; floats = shown_colour black }
 
 -- What is promised of a shown code r: it is that float, its value is exactly code / 65,536, and it reads as the same code.
 pub record Shown (code : ℕ) (r : Float) : Type 0 where

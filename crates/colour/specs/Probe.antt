@@ -1,5 +1,5 @@
 -- What a search by path measures distances from (document 01, "Picks").
-use Rattle.colour.specs.declared.Colour.{Colour}
+use Rattle.colour.specs.Channels.{Colour}
 use Rattle.colour.specs.declared.Probe.{Probe}
 use Rattle.colour.specs.Colour.{InRange}
 

@@ -1,30 +1,26 @@
 -- Queries taken apart into codes (document 01, "Gestures").
-use Rattle.std.specs.Prelude.{ℕ, Bool, true, false, ◌&&◌, List, [], ◌∷◌, leb, Float}
-use Rattle.colour.specs.declared.Colour.{Colour}
-use Rattle.colour.specs.declared.PanelColour.{PanelColour}
+use Rattle.std.specs.Prelude.{ℕ, Result, Ok, Err, Bool, true, false, ◌&&◌, List, [], ◌∷◌, leb, Float}
+use Rattle.colour.specs.Channels.{Colour}
+use Rattle.colour.specs.Channels.{PanelColour}
 use Rattle.colour.specs.declared.Query.{Query}
 use Rattle.colour.specs.declared.Query.TheVariants as Q
 use Rattle.colour.specs.declared.Region.TheVariants as R
+use Rattle.colour.specs.declared.refusal.Refusal.{Refusal}
 use Rattle.colour.specs.declared.refusal.Refusal.TheVariants.{OutOfRange}
-use Rattle.colour.specs.declared.panel.Sphere.{Sphere}
-use Rattle.colour.specs.declared.panel.Sphere.TheVariants as S
 use Rattle.colour.specs.declared.panel.Wanted.{Wanted}
 use Rattle.colour.specs.declared.panel.Wanted.TheVariants as W
-use Rattle.colour.specs.declared.panel.Asked.{Asked}
-use Rattle.colour.specs.declared.panel.Asked.TheVariants as A
 use Rattle.colour.specs.Colour.{code_in, each}
 use Rattle.colour.specs.Panel.{panel_good, radius_good, codes_of, code_of}
 use Rattle.colour.specs.Question.{Question, asks}
-use Rattle.colour.specs.Refusal.{refusal_number}
 
 -- A box needs low ≤ high in each channel, as codes.
 unfoldable pub ordered : Colour → Colour → Bool
 ordered lo hi = each (λ h. leb (code_in h lo) (code_in h hi))
 
--- A centre and a radius in codes, as an enum.
-unfoldable pub sphere_if : Bool → PanelColour → Float → Sphere
-sphere_if true c r = S.Is (codes_of c) (code_of r)
-sphere_if false c r = S.OutOfRange
+-- A centre and a radius in codes, or the refusal.
+unfoldable pub sphere_if : Bool → PanelColour → Float → Result (Colour × ℕ) Refusal
+sphere_if true c r = Ok (codes_of c, code_of r)
+sphere_if false c r = Err OutOfRange
 
 -- Question 9: as under Gestures?
 unfoldable pub query_good : Query → Bool
@@ -43,10 +39,5 @@ in_codes (Q.Box lo hi) = W.Listed (R.Box (codes_of lo) (codes_of hi))
 in_codes (Q.Nearest c r) = W.Nearest (codes_of c) (code_of r)
 
 -- A query taken apart.
-unfoldable pub asked_of : Query → Asked
-asked_of q = elim (query_good q) [ true ↦ A.For (in_codes q) | false ↦ A.Refused OutOfRange ]
-
--- The paper's number for each case of the enum; the values are those that the case carries.
-unfoldable pub asked_number : Asked → ℕ
-asked_number (A.For w) = 0
-asked_number (A.Refused r) = refusal_number r
+unfoldable pub asked_of : Query → Result Wanted Refusal
+asked_of q = elim (query_good q) [ true ↦ Ok (in_codes q) | false ↦ Err OutOfRange ]

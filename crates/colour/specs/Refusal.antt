@@ -1,5 +1,5 @@
 -- Refusals (document 01, "Questions, in this order").
-use Rattle.std.specs.Prelude.{ℕ}
+use Rattle.std.specs.Prelude.{ℕ, Result, Ok, Err}
 use Rattle.colour.specs.declared.refusal.Refusal.{Refusal}
 use Rattle.colour.specs.declared.refusal.Refusal.TheVariants as R
 
@@ -18,3 +18,8 @@ refusal_number R.Name = 10
 refusal_number R.Header = 11
 refusal_number R.Line = 12
 refusal_number R.NoRoom = 13
+
+-- The paper's number for an answer: 0 is acceptance.
+abbrev pub answer_number : {T : Type 0} → Result T Refusal → ℕ
+answer_number (Ok x) = 0
+answer_number (Err r) = refusal_number r

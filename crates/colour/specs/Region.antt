@@ -1,6 +1,6 @@
 -- What a ball and a box hold, and how they lie to an octant of side s at low (document 01, "Picks").
 use Rattle.std.specs.Prelude.{ℕ, ◌*◌, Bool, true, false, ◌&&◌, leb, ltb}
-use Rattle.colour.specs.declared.Colour.{Colour}
+use Rattle.colour.specs.Channels.{Colour}
 use Rattle.colour.specs.declared.Region.{Region}
 use Rattle.colour.specs.declared.Region.TheVariants.{Ball, Box}
 use Rattle.colour.specs.Colour.{code_in, colour_by, each, apart, distance, InRange}

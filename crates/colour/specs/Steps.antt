@@ -1,5 +1,6 @@
 -- What only inner functions promise: how the eight children's tests share what is worked out for the two halves of a channel.
 use Rattle.std.specs.Prelude.{ℕ, zero, suc, ◌+◌, ◌*◌, ◌/◌, ◌%◌, ◌≤◌, Bool, true, false, ◌&&◌, leb, ltb}
+use Rattle.colour.specs.declared.Channels.{Channels}
 use Rattle.colour.specs.declared.Region.{Region}
 use Rattle.colour.specs.declared.Region.TheVariants.{Ball, Box}
 use Rattle.colour.specs.declared.overlap.Halves.{Halves}
@@ -39,11 +40,11 @@ unfoldable pub half_at : Halves → ℕ → ℕ
 half_at v zero = v.lower
 half_at v (suc b) = v.upper
 
--- Of three, the one of a channel.
-unfoldable pub of_channel : Halves → Halves → Halves → Channel → Halves
-of_channel red green blue Channel.Red = red
-of_channel red green blue Channel.Green = green
-of_channel red green blue Channel.Blue = blue
+-- The one of a channel.
+unfoldable pub of_channel : Channels Halves → Channel → Halves
+of_channel v Channel.Red = v.red
+of_channel v Channel.Green = v.green
+of_channel v Channel.Blue = v.blue
 
 -- What the halves of child k add up to.
 unfoldable pub child_sum : (Channel → Halves) → ℕ → ℕ

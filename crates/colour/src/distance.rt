@@ -1,44 +1,49 @@
 // The squared distance of two colours, in 64 bits: three squares of codes do not fit 32.
 ghost use Rattle.std.specs.Prelude.{◌≡◌, ◌+◌, ◌*◌, ◌≤◌};
-ghost use Rattle.colour.specs.Colour.{apart, distance, greatest_distance, InRange};
+ghost use Rattle.colour.specs.Colour.{apart, distance, greatest_distance};
 
-use crate::Colour;
-
-// The difference of two codes.
-pub fn difference(x: u32, y: u32) -> u32
-    requires { (x ≤ 65535) × (y ≤ 65535) }
-    ensures is { result ≡ apart x y }
-    ensures bounded { result ≤ 65535 }
-{
-    if x < y { y - x } else { x - y }
-}
+use crate::Codes;
 
 // Any 32-bit number's square fits 64 bits.
 pub fn square(x: u32) -> u64
     ensures { result ≡ x * x }
 {
-    let wide = x as u64;
+    let wide = u64::from(x);
     wide * wide
 }
 
-// The sum of the squares of three differences.
-pub fn squares(red: u32, green: u32, blue: u32) -> u64
-    requires { (red ≤ 65535) × ((green ≤ 65535) × (blue ≤ 65535)) }
+// The square of a difference of codes fits 32 bits.
+pub(crate) fn code_square(x: u16) -> u32
+    ensures is { result ≡ x * x }
+    ensures bounded { result ≤ 4294836225 }
+{
+    square(u32::from(x)) as u32
+}
+
+// What three channels come to, in 64 bits.
+pub(crate) fn sum_of(red: u32, green: u32, blue: u32) -> u64
+    ensures { result ≡ red + green + blue }
+{
+    u64::from(red) + u64::from(green) + u64::from(blue)
+}
+
+// The sum of the squares of three differences of codes.
+pub fn squares(red: u16, green: u16, blue: u16) -> u64
     ensures is { result ≡ red * red + green * green + blue * blue }
     ensures bounded { result ≤ greatest_distance }
 {
-    square(red) + square(green) + square(blue)
+    sum_of(code_square(red), code_square(green), code_square(blue))
 }
 
 // d² of two colours.
-pub fn squared(a: Colour, b: Colour) -> u64
-    requires { (InRange a) × (InRange b) }
+#[tactic(auto, unfolding(crate::specs::Colour::distance, crate::specs::Colour::sum_of, crate::specs::Colour::apart, crate::specs::Colour::code_in))]
+pub fn squared(a: Codes, b: Codes) -> u64
     ensures is { result ≡ distance a b }
     ensures bounded { result ≤ greatest_distance }
 {
     squares(
-        difference(a.red, b.red),
-        difference(a.green, b.green),
-        difference(a.blue, b.blue),
+        a.red.abs_diff(b.red),
+        a.green.abs_diff(b.green),
+        a.blue.abs_diff(b.blue),
     )
 }

@@ -14,24 +14,25 @@ pub mod refusal;
 ghost use Rattle.std.specs.Prelude.{◌≡◌};
 ghost use Rattle.colour.specs.Colour.{wrapped, InRange};
 
-// A colour: red, green and blue codes. The words are wider than a code, so that a code out of range can be passed and refused.
-#[derive(Clone, Copy)]
-pub struct Colour {
-    pub red: u32,
-    pub green: u32,
-    pub blue: u32,
+// What is said of red, green and blue alike.
+#[derive(Clone, Copy, PartialEq, Eq)]
+pub struct Channels<T> {
+    pub red: T,
+    pub green: T,
+    pub blue: T,
 }
+
+// A colour as three words. They are wider than a code, so that a code out of range can be passed and refused.
+pub type Colour = Channels<u32>;
+
+// A colour that is in range: its words are codes, and no more needs to be said of it.
+pub type Codes = Channels<u16>;
 
 // A panel colour: three floats that travel together.
-#[derive(Clone, Copy)]
-pub struct PanelColour {
-    pub red: f32,
-    pub green: f32,
-    pub blue: f32,
-}
+pub type PanelColour = Channels<f32>;
 
 // A sample (the paper's swatch).
-#[derive(Clone, Copy)]
+#[derive(Clone, Copy, PartialEq, Eq)]
 pub struct Sample {
     pub tag: u32,
     pub colour: Colour,
@@ -54,32 +55,32 @@ pub enum Query {
 // What a search by path measures distances from: a centre.
 #[derive(Clone, Copy)]
 pub struct Probe {
-    pub centre: Colour,
+    pub centre: Codes,
 }
 
-// The colours that a ball or a box asks for, in codes.
+// The colours that a ball or a box asks for, in codes. A box's words are only compared, so any will do.
 #[derive(Clone, Copy)]
 pub enum Region {
-    Ball(Colour, u32),
+    Ball(Codes, u32),
     Box(Colour, Colour),
 }
 
 // An octant as a cube of colours: its least colour, its depth, and its side, which goes with it so that it is looked up once.
 #[derive(Clone, Copy)]
 pub struct Cube {
-    pub low: Colour,
+    pub low: Codes,
     pub depth: u32,
     pub side: u32,
 }
 
 // A colour of any three words, each brought into range.
-pub fn wrapped(c: Colour) -> Colour
-    ensures is { result ≡ wrapped c }
-    ensures ranged { InRange result }
+#[tactic(auto, unfolding(crate::specs::Colour::wrapped, crate::specs::Colour::colour_by, crate::specs::Colour::code_in))]
+pub fn wrapped(c: Colour) -> Codes
+    ensures { result ≡ wrapped c }
 {
-    Colour {
-        red: c.red % 65536,
-        green: c.green % 65536,
-        blue: c.blue % 65536,
+    Channels {
+        red: (c.red % 65536) as u16,
+        green: (c.green % 65536) as u16,
+        blue: (c.blue % 65536) as u16,
     }
 }

@@ -1,13 +1,14 @@
-// The children in a mask, taken out one after the other.
+// The children in a mask, taken out one after the other, and the bits that make one.
 ghost use Rattle.std.specs.Prelude.{◌≡◌, ◌-◌, ◌^◌, ◌<◌, ◌≤◌};
 ghost use Rattle.std.specs.Int.Count.{count_trailing_zeros};
+ghost use Rattle.colour.specs.Mask.{bit_if};
 
 // The least child in a mask that is not 0.
 pub fn first(mask: u32) -> u32
     requires { mask ≡ 0 → ⊥ }
     ensures { result ≡ count_trailing_zeros 32 mask }
 {
-    u32::trailing_zeros(mask)
+    mask.trailing_zeros()
 }
 
 // The mask without child k, which is in it.
@@ -16,4 +17,13 @@ pub fn without(mask: u32, k: u32) -> u32
     ensures { result ≡ mask - 2 ^ k }
 {
     mask - (1 << k)
+}
+
+// A bit of that weight if a test holds, else 0.
+#[tactic(auto, unfolding(crate::specs::Mask::bit_if))]
+pub(crate) fn bit_if(test: bool, weight: u32) -> u32
+    ensures is { result ≡ bit_if test weight }
+    ensures bounded { result ≤ weight }
+{
+    if test { weight } else { 0 }
 }

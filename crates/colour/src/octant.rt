@@ -2,7 +2,7 @@
 ghost use Rattle.std.specs.Prelude.{◌≡◌, suc, ◌+◌, ◌*◌, ◌/◌, ◌%◌, ◌<◌, ◌≤◌};
 ghost use Rattle.colour.specs.Octant.{side_at, root_cube, child_cube, Within};
 
-use crate::{Colour, Cube};
+use crate::{Channels, Cube};
 
 // The sides at depths 0 to 16.
 const SIDES: [u32; 17] = [
@@ -24,7 +24,7 @@ pub fn root() -> Cube
     ensures within { Within result }
 {
     Cube {
-        low: Colour {
+        low: Channels {
             red: 0,
             green: 0,
             blue: 0,
@@ -35,30 +35,50 @@ pub fn root() -> Cube
 }
 
 // The least code of child k in the channel of that weight: bit 1 is the upper half.
-fn child_code(low: u32, k: u32, weight: u32, side: u32) -> u32
-    requires { (1 ≤ weight) × (low + (side + side) ≤ 65536) }
+fn child_code(low: u16, k: u32, weight: u32, side: u32) -> u16
+    requires { (1 ≤ weight) × ((1 ≤ side) × (low + (side + side) ≤ 65536)) }
     ensures { result ≡ low + k / weight % 2 * side }
 {
-    low + k / weight % 2 * side
+    (u32::from(low) + k / weight % 2 * side) as u16
 }
 
-// Child k of an octant of side over 1. The caller looks up the children's side, once for all eight.
-pub fn child(c: Cube, half: u32, k: u32) -> Cube
-    requires cube_within { Within c }
-    requires depth_bound { c.depth < 16 }
-    requires half_value { half ≡ side_at (suc c.depth) }
-    ensures is { result ≡ child_cube c k }
+// An octant of side over 1, with the side of its children, which is looked up once for all eight.
+#[derive(Clone, Copy)]
+pub struct Parent {
+    pub cube: Cube,
+    pub half: u32,
+    ghost within: { Within cube },
+    ghost deep: { cube.depth < 16 },
+    ghost halved: { half ≡ side_at (suc cube.depth) },
+}
+
+// An octant that has children.
+pub fn parent_of(cube: Cube) -> Parent
+    requires within { Within cube }
+    requires deep { cube.depth < 16 }
+    ensures { result.cube ≡ cube }
+{
+    Parent {
+        cube,
+        half: side(cube.depth + 1),
+    }
+}
+
+// Child k of a split octant.
+#[tactic(auto, using(crate::proofs::Laws::Cubes::parent_room))]
+pub fn child(parent: Parent, k: u32) -> Cube
+    ensures is { result ≡ child_cube parent.cube k }
     ensures within { Within result }
 {
-    let low = c.low;
-    let depth = c.depth + 1;
+    let low = parent.cube.low;
+    let half = parent.half;
     Cube {
-        low: Colour {
+        low: Channels {
             red: child_code(low.red, k, 1, half),
             green: child_code(low.green, k, 2, half),
             blue: child_code(low.blue, k, 4, half),
         },
-        depth,
+        depth: parent.cube.depth + 1,
         side: half,
     }
 }

@@ -1,22 +1,33 @@
 // How a region lies to a colour and to an octant. A channel's gap is worked out from the octant's least code and side, so the
 // closest and the farthest colour are never built.
-ghost use Rattle.std.specs.Prelude.{◌≡◌, ◌&&◌, suc, ◌+◌, ◌<◌, ◌≤◌, leb, ltb};
-ghost use Rattle.colour.specs.Colour.{apart, distance, greatest_distance, InRange};
-ghost use Rattle.colour.specs.Octant.{last_code, side_at, children, Within};
-ghost use Rattle.colour.specs.Region.{closest_code, farthest_code, closest, farthest, holds, overlaps, inside, Fair};
+ghost use Rattle.std.specs.Prelude.{◌≡◌, ◌&&◌, ◌+◌, ◌<◌, ◌≤◌, leb, ltb};
+ghost use Rattle.colour.specs.Colour.{apart, distance, greatest_distance};
+ghost use Rattle.colour.specs.Octant.{last_code, children, Within};
+ghost use Rattle.colour.specs.Region.{closest_code, farthest_code, closest, farthest, holds, overlaps, inside};
 ghost use Rattle.colour.specs.Mask.{bit_if, mask_of, overlap_mask};
-ghost use Rattle.colour.specs.Steps.{closest_square, noes, missed, halves_of, of_channel, child_below, Small};
+ghost use Rattle.colour.specs.Steps.{closest_square, missed, halves_of, of_channel, child_below, Small};
 
-use crate::distance::{difference, square, squared, squares};
-use crate::{Colour, Cube, Region};
+use crate::distance::{code_square, square, squared, squares, sum_of};
+use crate::mask::bit_if;
+use crate::nearby::gaps_of;
+use crate::octant::Parent;
+use crate::{Channels, Codes, Colour, Cube, Region};
+
+// The last code of low .. low + side - 1.
+#[tactic(auto, unfolding(crate::specs::Octant::last_code))]
+fn last_of(low: u16, side: u32) -> u16
+    requires { (1 ≤ side) × (low + side ≤ 65536) }
+    ensures { result ≡ last_code side low }
+{
+    (u32::from(low) + side - 1) as u16
+}
 
 // How far x is from the closest code of low .. low + side - 1.
-fn closest_gap(x: u32, low: u32, side: u32) -> u32
-    requires { (x ≤ 65535) × ((1 ≤ side) × (low + side ≤ 65536)) }
-    ensures is { result ≡ apart x (closest_code low (last_code side low) x) }
-    ensures bounded { result ≤ 65535 }
+fn closest_gap(x: u16, low: u16, side: u32) -> u16
+    requires { (1 ≤ side) × (low + side ≤ 65536) }
+    ensures { result ≡ apart x (closest_code low (last_code side low) x) }
 {
-    let last = low + side - 1;
+    let last = last_of(low, side);
     if x <= low {
         return low - x;
     }
@@ -27,19 +38,19 @@ fn closest_gap(x: u32, low: u32, side: u32) -> u32
 }
 
 // How far x is from the farthest code of low .. low + side - 1, which is the first or the last.
-fn farthest_gap(x: u32, low: u32, side: u32) -> u32
-    requires { (x ≤ 65535) × ((1 ≤ side) × (low + side ≤ 65536)) }
-    ensures is { result ≡ apart x (farthest_code low (last_code side low) x) }
-    ensures bounded { result ≤ 65535 }
+fn farthest_gap(x: u16, low: u16, side: u32) -> u16
+    requires { (1 ≤ side) × (low + side ≤ 65536) }
+    ensures { result ≡ apart x (farthest_code low (last_code side low) x) }
 {
-    let down = difference(x, low);
-    let up = difference(x, low + side - 1);
+    let down = x.abs_diff(low);
+    let up = x.abs_diff(last_of(low, side));
     if down <= up { up } else { down }
 }
 
 // d² from a colour to an octant's closest colour.
-pub fn closest_distance(c: Colour, cube: Cube) -> u64
-    requires { (InRange c) × (Within cube) }
+#[tactic(auto, using(crate::proofs::Laws::Cubes::cube_room), unfolding(crate::specs::Colour::distance, crate::specs::Colour::sum_of, crate::specs::Region::closest, crate::specs::Colour::colour_by, crate::specs::Colour::code_in))]
+pub fn closest_distance(c: Codes, cube: Cube) -> u64
+    requires { Within cube }
     ensures is { result ≡ distance c (closest c cube.side cube.low) }
     ensures bounded { result ≤ greatest_distance }
 {
@@ -53,8 +64,9 @@ pub fn closest_distance(c: Colour, cube: Cube) -> u64
 }
 
 // d² from a colour to an octant's farthest colour.
-pub fn farthest_distance(c: Colour, cube: Cube) -> u64
-    requires { (InRange c) × (Within cube) }
+#[tactic(auto, using(crate::proofs::Laws::Cubes::cube_room), unfolding(crate::specs::Colour::distance, crate::specs::Colour::sum_of, crate::specs::Region::farthest, crate::specs::Colour::colour_by, crate::specs::Colour::code_in))]
+pub fn farthest_distance(c: Codes, cube: Cube) -> u64
+    requires { Within cube }
     ensures is { result ≡ distance c (farthest c cube.side cube.low) }
     ensures bounded { result ≤ greatest_distance }
 {
@@ -68,29 +80,31 @@ pub fn farthest_distance(c: Colour, cube: Cube) -> u64
 }
 
 // The box tests of one channel. `&` and not `&&`: no branch.
-fn between(low: u32, x: u32, high: u32) -> bool
+fn between(low: u32, x: u16, high: u32) -> bool
     ensures { result ≡ leb low x && leb x high }
 {
+    let x = u32::from(x);
     (low <= x) & (x <= high)
 }
 
 // Whether some code of from .. from + side - 1 is in low .. high.
-fn some_between(low: u32, high: u32, from: u32, side: u32) -> bool
+fn some_between(low: u32, high: u32, from: u16, side: u32) -> bool
     requires { (1 ≤ side) × (from + side ≤ 65536) }
     ensures { result ≡ leb low (last_code side from) && leb from high }
 {
-    (low <= from + side - 1) & (from <= high)
+    (low <= u32::from(last_of(from, side))) & (u32::from(from) <= high)
 }
 
 // Whether all are.
-fn all_between(low: u32, high: u32, from: u32, side: u32) -> bool
+fn all_between(low: u32, high: u32, from: u16, side: u32) -> bool
     requires { (1 ≤ side) × (from + side ≤ 65536) }
     ensures { result ≡ leb low from && leb (last_code side from) high }
 {
-    (low <= from) & (from + side - 1 <= high)
+    (low <= u32::from(from)) & (u32::from(last_of(from, side)) <= high)
 }
 
-fn box_holds(low: Colour, high: Colour, c: Colour) -> bool
+#[tactic(auto, unfolding(crate::specs::Region::holds, crate::specs::Colour::each, crate::specs::Colour::code_in))]
+fn box_holds(low: Colour, high: Colour, c: Codes) -> bool
     ensures { result ≡ holds (Region.Box low high) c }
 {
     between(low.red, c.red, high.red)
@@ -98,6 +112,7 @@ fn box_holds(low: Colour, high: Colour, c: Colour) -> bool
         & between(low.blue, c.blue, high.blue)
 }
 
+#[tactic(auto, using(crate::proofs::Laws::Cubes::cube_room), unfolding(crate::specs::Region::overlaps, crate::specs::Colour::each, crate::specs::Colour::code_in))]
 fn box_overlaps(low: Colour, high: Colour, cube: Cube) -> bool
     requires { Within cube }
     ensures { result ≡ overlaps (Region.Box low high) cube.side cube.low }
@@ -109,6 +124,7 @@ fn box_overlaps(low: Colour, high: Colour, cube: Cube) -> bool
         & some_between(low.blue, high.blue, from.blue, s)
 }
 
+#[tactic(auto, using(crate::proofs::Laws::Cubes::cube_room), unfolding(crate::specs::Region::inside, crate::specs::Colour::each, crate::specs::Colour::code_in))]
 fn box_inside(low: Colour, high: Colour, cube: Cube) -> bool
     requires { Within cube }
     ensures { result ≡ inside (Region.Box low high) cube.side cube.low }
@@ -121,8 +137,8 @@ fn box_inside(low: Colour, high: Colour, cube: Cube) -> bool
 }
 
 // Whether a colour is in a region.
-pub fn holds(region: Region, c: Colour) -> bool
-    requires { (Fair region) × (InRange c) }
+#[tactic(auto, unfolding(crate::specs::Region::holds))]
+pub fn holds(region: Region, c: Codes) -> bool
     ensures { result ≡ holds region c }
 {
     match region {
@@ -132,8 +148,9 @@ pub fn holds(region: Region, c: Colour) -> bool
 }
 
 // Whether some colour of an octant is in a region.
+#[tactic(auto, unfolding(crate::specs::Region::overlaps))]
 pub fn overlaps(region: Region, cube: Cube) -> bool
-    requires { (Fair region) × (Within cube) }
+    requires { Within cube }
     ensures { result ≡ overlaps region cube.side cube.low }
 {
     match region {
@@ -143,8 +160,9 @@ pub fn overlaps(region: Region, cube: Cube) -> bool
 }
 
 // Whether every colour of an octant is in a ball. An octant's farthest colour is at least half a side away, so most octants need no distance.
-fn ball_inside(centre: Colour, radius: u32, cube: Cube) -> bool
-    requires { (InRange centre) × (Within cube) }
+#[tactic(auto, unfolding(crate::specs::Region::inside), using(crate::proofs::Laws::Extremes::half_outside, crate::proofs::Laws::Cubes::cube_room))]
+fn ball_inside(centre: Codes, radius: u32, cube: Cube) -> bool
+    requires { Within cube }
     ensures { result ≡ inside (Region.Ball centre radius) cube.side cube.low }
 {
     if radius <= cube.side / 2 {
@@ -154,8 +172,9 @@ fn ball_inside(centre: Colour, radius: u32, cube: Cube) -> bool
 }
 
 // Whether every colour of an octant is in a region.
+#[tactic(auto, unfolding(crate::specs::Region::inside))]
 pub fn inside(region: Region, cube: Cube) -> bool
-    requires { (Fair region) × (Within cube) }
+    requires { Within cube }
     ensures { result ≡ inside region cube.side cube.low }
 {
     match region {
@@ -164,61 +183,63 @@ pub fn inside(region: Region, cube: Cube) -> bool
     }
 }
 
-// What each half of a channel adds to a child's sum: to the closest d² for a ball, 0 or 1 for a box.
+// What each half of a channel adds to a child's sum: to the closest d² for a ball, a square of a code at most; 0 or 1 for a box.
 #[derive(Clone, Copy)]
 pub struct Halves {
-    pub lower: u64,
-    pub upper: u64,
+    pub lower: u32,
+    pub upper: u32,
 }
 
-pub fn closest_squares(x: u32, low: u32, half: u32) -> Halves
-    requires { (x ≤ 65535) × ((1 ≤ half) × (low + (half + half) ≤ 65536)) }
+// The first code of the upper half of low .. low + 2 × half - 1.
+fn middle_of(low: u16, half: u32) -> u16
+    requires { (1 ≤ half) × (low + (half + half) ≤ 65536) }
+    ensures { result ≡ low + half }
+{
+    (u32::from(low) + half) as u16
+}
+
+// What the halves of a channel add to the closest d² of a ball's centre.
+#[tactic(auto, unfolding(crate::specs::Steps::halves_of, crate::specs::Steps::closest_square))]
+pub fn closest_squares(x: u16, low: u16, half: u32) -> Halves
+    requires { (1 ≤ half) × (low + (half + half) ≤ 65536) }
     ensures is { result ≡ halves_of (closest_square x) half low }
     ensures small { Small result }
 {
+    let middle = middle_of(low, half);
     Halves {
-        lower: square(closest_gap(x, low, half)),
-        upper: square(closest_gap(x, low + half, half)),
+        lower: code_square(closest_gap(x, low, half)),
+        upper: code_square(closest_gap(x, middle, half)),
     }
 }
 
-fn miss(hit: bool) -> u64
-    ensures is { result ≡ noes hit }
-    ensures bounded { result ≤ 1 }
-{
-    if hit { 0 } else { 1 }
-}
-
-fn misses(low: u32, high: u32, from: u32, half: u32) -> Halves
+// What they add for a box: 1 where none of a half's codes is in it.
+#[tactic(auto, unfolding(crate::specs::Steps::missed, crate::specs::Steps::halves_of), using(crate::proofs::Laws::Halves::noes_byte, crate::proofs::Laws::Halves::noes_most))]
+fn misses(low: u32, high: u32, from: u16, half: u32) -> Halves
     requires { (1 ≤ half) × (from + (half + half) ≤ 65536) }
     ensures is { result ≡ halves_of (missed low high) half from }
     ensures small { Small result }
 {
+    let middle = middle_of(from, half);
     Halves {
-        lower: miss(some_between(low, high, from, half)),
-        upper: miss(some_between(low, high, from + half, half)),
+        lower: u32::from(!some_between(low, high, from, half)),
+        upper: u32::from(!some_between(low, high, middle, half)),
     }
 }
 
 // A child's bit.
-fn bit(red: u64, green: u64, blue: u64, limit: u64, weight: u32) -> u32
-    requires { (red ≤ 4294836225) × ((green ≤ 4294836225) × (blue ≤ 4294836225)) }
+fn bit(red: u32, green: u32, blue: u32, limit: u64, weight: u32) -> u32
     ensures is { result ≡ bit_if (ltb (red + green + blue) limit) weight }
     ensures bounded { result ≤ weight }
 {
-    if red + green + blue < limit {
-        weight
-    } else {
-        0
-    }
+    bit_if(sum_of(red, green, blue) < limit, weight)
 }
 
 // The children whose halves add up to less than a limit. The eight sums share the six numbers, and nothing branches.
-fn mask(red: Halves, green: Halves, blue: Halves, limit: u64) -> u32
-    requires { (Small red) × ((Small green) × (Small blue)) }
-    ensures is { result ≡ mask_of (child_below (of_channel red green blue) limit) children }
+fn mask(halves: Channels<Halves>, limit: u64) -> u32
+    ensures is { result ≡ mask_of (child_below (of_channel halves) limit) children }
     ensures bounded { result < 256 }
 {
+    let Channels { red, green, blue } = halves;
     bit(red.lower, green.lower, blue.lower, limit, 1)
         + bit(red.upper, green.lower, blue.lower, limit, 2)
         + bit(red.lower, green.upper, blue.lower, limit, 4)
@@ -229,48 +250,37 @@ fn mask(red: Halves, green: Halves, blue: Halves, limit: u64) -> u32
         + bit(red.upper, green.upper, blue.upper, limit, 128)
 }
 
-fn ball_overlapping(centre: Colour, radius: u32, cube: Cube, half: u32) -> u32
-    requires in_range { (InRange centre) × (Within cube) }
-    requires depth_bound { cube.depth < 16 }
-    requires half_value { half ≡ side_at (suc cube.depth) }
-    ensures is { result ≡ overlap_mask (Region.Ball centre radius) half cube.low }
+fn ball_overlapping(centre: Codes, radius: u32, parent: Parent) -> u32
+    ensures is { result ≡ overlap_mask (Region.Ball centre radius) parent.half parent.cube.low }
     ensures bounded { result < 256 }
 {
-    let low = cube.low;
-    mask(
-        closest_squares(centre.red, low.red, half),
-        closest_squares(centre.green, low.green, half),
-        closest_squares(centre.blue, low.blue, half),
-        square(radius),
-    )
+    mask(gaps_of(centre, parent), square(radius))
 }
 
-fn box_overlapping(low: Colour, high: Colour, cube: Cube, half: u32) -> u32
-    requires within { Within cube }
-    requires depth_bound { cube.depth < 16 }
-    requires half_value { half ≡ side_at (suc cube.depth) }
-    ensures is { result ≡ overlap_mask (Region.Box low high) half cube.low }
+#[tactic(auto, using(crate::proofs::Laws::Cubes::parent_room))]
+fn box_overlapping(low: Colour, high: Colour, parent: Parent) -> u32
+    ensures is { result ≡ overlap_mask (Region.Box low high) parent.half parent.cube.low }
     ensures bounded { result < 256 }
 {
-    let from = cube.low;
+    let from = parent.cube.low;
+    let half = parent.half;
     mask(
-        misses(low.red, high.red, from.red, half),
-        misses(low.green, high.green, from.green, half),
-        misses(low.blue, high.blue, from.blue, half),
+        Channels {
+            red: misses(low.red, high.red, from.red, half),
+            green: misses(low.green, high.green, from.green, half),
+            blue: misses(low.blue, high.blue, from.blue, half),
+        },
         1,
     )
 }
 
-// The children of an octant that overlap a region, each a bit of the result. The caller looks up the children's side.
-pub fn overlapping(region: Region, cube: Cube, half: u32) -> u32
-    requires fair { (Fair region) × (Within cube) }
-    requires depth_bound { cube.depth < 16 }
-    requires half_value { half ≡ side_at (suc cube.depth) }
-    ensures is { result ≡ overlap_mask region half cube.low }
+// The children of a split octant that overlap a region, each a bit of the result.
+pub fn overlapping(region: Region, parent: Parent) -> u32
+    ensures is { result ≡ overlap_mask region parent.half parent.cube.low }
     ensures bounded { result < 256 }
 {
     match region {
-        Region::Ball(centre, radius) => ball_overlapping(centre, radius, cube, half),
-        Region::Box(low, high) => box_overlapping(low, high, cube, half),
+        Region::Ball(centre, radius) => ball_overlapping(centre, radius, parent),
+        Region::Box(low, high) => box_overlapping(low, high, parent),
     }
 }

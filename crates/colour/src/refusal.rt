@@ -1,42 +1,39 @@
-// Why a call refuses.
+// Why a call refuses, and the paper's number for it.
 ghost use Rattle.std.specs.Prelude.{◌≡◌};
-ghost use Rattle.colour.specs.Refusal.{refusal_number};
+ghost use Rattle.colour.specs.Refusal.{refusal_number, answer_number};
 
-// One case for each question that can be answered with no, in the sequence of their numbers. C and Rust name them alike.
-#[derive(Clone, Copy)]
+// One case for each question that can be answered with no, by its number. C and Rust name them alike.
+#[derive(Clone, Copy, Debug, PartialEq, Eq)]
 pub enum Refusal {
-    TooShort,
-    Unsound,
-    Bucket,
-    Code,
-    KnownTag,
-    NoRow,
-    NoOctants,
-    UnknownTag,
-    OutOfRange,
-    Name,
-    Header,
-    Line,
-    NoRoom,
+    TooShort = 1,
+    Unsound = 2,
+    Bucket = 3,
+    Code = 4,
+    KnownTag = 5,
+    NoRow = 6,
+    NoOctants = 7,
+    UnknownTag = 8,
+    OutOfRange = 9,
+    Name = 10,
+    Header = 11,
+    Line = 12,
+    NoRoom = 13,
 }
 
-// The number of a refusal.
-pub fn number_of(refusal: Refusal) -> u32
-    ensures { result ≡ refusal_number refusal }
+impl From<Refusal> for u32 {
+    ghost from_gives = { λ r n. n ≡ refusal_number r };
+
+    fn from(refusal: Refusal) -> u32 {
+        refusal as u32
+    }
+}
+
+// The number of an answer, whatever it holds: 0 is acceptance.
+pub fn number_of<T: Drop>(answer: Result<T, Refusal>) -> u32
+    ensures { result ≡ answer_number answer }
 {
-    match refusal {
-        Refusal::TooShort => 1,
-        Refusal::Unsound => 2,
-        Refusal::Bucket => 3,
-        Refusal::Code => 4,
-        Refusal::KnownTag => 5,
-        Refusal::NoRow => 6,
-        Refusal::NoOctants => 7,
-        Refusal::UnknownTag => 8,
-        Refusal::OutOfRange => 9,
-        Refusal::Name => 10,
-        Refusal::Header => 11,
-        Refusal::Line => 12,
-        Refusal::NoRoom => 13,
+    match answer {
+        Ok(_) => 0,
+        Err(refusal) => u32::from(refusal),
     }
 }

@@ -3,7 +3,7 @@
 -- On sound tables it lists, enters and measures what document 01 says of a pick (`pass_agrees` of proofs/Laws/Sound/Passed.antt): neither bound
 -- ever stops it.
 use Rattle.std.specs.Prelude.{ℕ, zero, suc, ◌+◌, ◌^◌, Bool, true, false, ◌&&◌, ◌||◌, List, [], ◌++◌, map, leb, ltb, length}
-use Rattle.colour.specs.declared.Colour.{Colour}
+use Rattle.colour.specs.Channels.{Colour}
 use Rattle.colour.specs.declared.Region.{Region}
 use Rattle.colour.specs.Colour.{black, wrapped}
 use Rattle.colour.specs.Octant.{depths, children, child_low}

@@ -2,7 +2,7 @@
 use Rattle.std.specs.Prelude.{ℕ, Bool, true, ◌&&◌, ◌≡◌, refl, List, [], ◌∷◌, ◌++◌, map, eqb, length, take, drop, get_or, replicate, Float}
 use Rattle.std.specs.Float.{binary32}
 use Rattle.std.specs.Float.Ieee.{of_bits}
-use Rattle.colour.specs.declared.PanelColour.{PanelColour}
+use Rattle.colour.specs.Channels.{PanelColour}
 use Rattle.colour.specs.declared.Sample.{Sample}
 use Rattle.colour.specs.declared.Query.TheVariants.{Ball, Nearest}
 use Rattle.colour.specs.Panel.{code_of, shown, CodesAnswer, floats_to_codes}

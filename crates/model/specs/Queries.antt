@@ -1,7 +1,7 @@
 -- Ball, box and nearest on the tree (document 01, "Picks").
 use Rattle.std.specs.Prelude.{ℕ, zero, suc, ◌*◌, ◌^◌, true, false, List, [], ◌∷◌, map, ltb, length}
 use Rattle.std.proofs.Math.Option.{Option, none, some}
-use Rattle.colour.specs.declared.Colour.{Colour}
+use Rattle.colour.specs.Channels.{Colour}
 use Rattle.colour.specs.declared.Region.{Region}
 use Rattle.colour.specs.Colour.{black, distance}
 use Rattle.colour.specs.Octant.{depths, children, child_low}

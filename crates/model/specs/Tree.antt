@@ -1,7 +1,7 @@
 -- The tree (document 01, "The bin", "The tables"): which octants are in it, and the sequence in which they are numbered.
 -- An octant of side 2 ^ j is given by j, the depth left below it, by its least colour, and by the samples that it holds.
 use Rattle.std.specs.Prelude.{ℕ, zero, suc, ◌^◌, ◌≤◌, ◌<◌, true, false, List, [], ◌∷◌, ◌++◌, map, ◌≡◌, length}
-use Rattle.colour.specs.declared.Colour.{Colour}
+use Rattle.colour.specs.Channels.{Colour}
 use Rattle.colour.specs.Colour.{black}
 use Rattle.colour.specs.Octant.{depths, children, child_low}
 use Rattle.model.specs.Lists.{joined}

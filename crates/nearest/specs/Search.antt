@@ -3,7 +3,7 @@
 -- to the rows. On sound tables it finds what document 01 says of near (`search_nearest` of proofs/Laws/Sound/Found.antt): neither bound ever stops it.
 use Rattle.std.specs.Prelude.{ℕ, zero, suc, ◌+◌, ◌*◌, ◌^◌, Bool, true, false, ◌&&◌, List, [], ◌∷◌, ltb, length}
 use Rattle.std.specs.Int.Bits.{bit_xor}
-use Rattle.colour.specs.declared.Colour.{Colour}
+use Rattle.colour.specs.Channels.{Colour}
 use Rattle.colour.specs.Colour.{black, distance, wrapped}
 use Rattle.colour.specs.Octant.{depths, children, child_low}
 use Rattle.colour.specs.Region.{closest}

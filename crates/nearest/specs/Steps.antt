@@ -1,6 +1,6 @@
 -- What the functions under nearest ask and promise. No call's own promise cites these.
 use Rattle.std.specs.Prelude.{ℕ, ◌≤◌, ◌<◌, List, ◌≡◌, length}
-use Rattle.colour.specs.declared.Colour.{Colour}
+use Rattle.colour.specs.Channels.{Colour}
 use Rattle.model.specs.Layout.{current, sample_header, octant_header}
 use Rattle.words.specs.Rows.{octant_limit, sample_budget}
 use Rattle.traversal.specs.Own.{rows_from}

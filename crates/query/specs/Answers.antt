@@ -1,7 +1,7 @@
 -- What a query answers (document 01, "Picks" and "Questions"): the paper's number and values for each case of the enum, and the answer on any words at
 -- all, by the pass or the search over them.
 use Rattle.std.specs.Prelude.{ℕ, ◌*◌, ◌≤◌, Bool, true, false, not, List, ◌∷◌, ◌≡◌, length}
-use Rattle.colour.specs.declared.Colour.{Colour}
+use Rattle.colour.specs.Channels.{Colour}
 use Rattle.colour.specs.declared.Query.{Query}
 use Rattle.colour.specs.declared.Region.{Region}
 use Rattle.colour.specs.declared.panel.Wanted.{Wanted}

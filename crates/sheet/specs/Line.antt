@@ -1,7 +1,7 @@
 -- Reel names and sheet lines, read and written (document 01, "Sheets").
 use Rattle.std.specs.Prelude.{ℕ, ◌+◌, ◌-◌, Bool, true, false, ◌&&◌, List, [], ◌∷◌, ◌++◌, leb, eqb, length, take, drop, get_or, replicate}
 use Rattle.std.proofs.Math.Option.{Option, none, some}
-use Rattle.colour.specs.declared.Colour.{Colour}
+use Rattle.colour.specs.Channels.{Colour}
 use Rattle.colour.specs.declared.Sample.{Sample}
 use Rattle.colour.specs.Colour.{is_tag, codes_fit}
 use Rattle.colour.specs.Question.{asks, first_no}

@@ -1,6 +1,6 @@
 -- How far the children of an octant are from a probe, channel by channel.
 use Rattle.std.specs.Prelude.{ℕ, zero, suc, ◌+◌, ◌-◌, ◌*◌, ◌/◌, ◌%◌, ◌≤◌, Bool, true, false, ◌&&◌, leb, ltb}
-use Rattle.colour.specs.declared.Colour.{Colour}
+use Rattle.colour.specs.Channels.{Colour}
 use Rattle.colour.specs.declared.Probe.{Probe}
 use Rattle.traversal.specs.declared.nearby.Squares.{Squares}
 use Rattle.colour.specs.Colour.{Channel, code_in, sum_of}

@@ -4,7 +4,7 @@
 -- sample of the order would keep (`search_kept` of proofs/Laws/Kept/Searched.antt): neither bound ever stops it.
 use Rattle.std.specs.Prelude.{ℕ, zero, suc, ◌+◌, ◌^◌, Bool, true, false, ◌&&◌, List, ltb, length}
 use Rattle.std.specs.Int.Bits.{bit_xor}
-use Rattle.colour.specs.declared.Colour.{Colour}
+use Rattle.colour.specs.Channels.{Colour}
 use Rattle.colour.specs.declared.Probe.{Probe}
 use Rattle.colour.specs.Colour.{black, distance}
 use Rattle.colour.specs.Octant.{depths, children, child_low}

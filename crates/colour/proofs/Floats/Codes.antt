@@ -11,7 +11,7 @@ use borrow.Author.Tests.{ltb-true, lt-ltb, eqb-true, eq-eqb, le-leb}
 use lib.IntN.{ℤ, pos}
 use lib.Ieee.{Float, nan, inf, fin, up, down, round}
 use lib.Ieee.Fits.{down_pos}
-use Rattle.colour.specs.declared.PanelColour.{PanelColour}
+use Rattle.colour.specs.Channels.{PanelColour}
 use Rattle.colour.specs.Colour.{Channel, Red, Green, Blue, each, code_in, is_code, codes_fit}
 use Rattle.colour.specs.Panel.{below, code_of, channel_good, panel_good, codes_of, shown}
 use Rattle.colour.proofs.Laws.Channels.{each_every}

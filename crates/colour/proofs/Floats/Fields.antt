@@ -12,8 +12,8 @@ use lib.Pow.{pow-add, pow_pos, pow_mono, shl_lt}
 use lib.Ieee.{Float, nan, inf, fin, binary32, odd, fits, of_fields, of_bits, to_bits}
 use lib.Ieee.Bits.{cond_no, is_true, is_false, of_bits-to_bits, to_bits-lt}
 use lib.Ieee.Exact.{odd_sign}
+use Rattle.std.specs.Prelude.{Some, None}
 use Rattle.colour.specs.Panel.{below, code_of, answer_if}
-use Rattle.colour.specs.declared.panel.Code.TheVariants.{Is, OutOfRange}
 use Rattle.colour.proofs.Floats.Value.{coded, code_yes, code_no, code_minus}
 
 -- The float of significand q and sign s that is q * 2 ^ x / 2 ^ 149, and its code.
@@ -21,24 +21,24 @@ abbrev scaled : Bool → ℕ → ℕ → Float
 scaled s q x = odd 24 s q x 149
 
 module _ (l q x : ℕ) where
-  scaled_minus : 0 < q * 2 ^ x → coded l (scaled true q x) ≡ OutOfRange
+  scaled_minus : 0 < q * 2 ^ x → coded l (scaled true q x) ≡ None
   scaled_minus h = code_minus l (scaled true q x) (q * 2 ^ x) (2 ^ 149) (odd_sign 24 true q x 149) h
 
-  scaled_no : l * 2 ^ 149 ≤ q * 2 ^ x → coded l (scaled false q x) ≡ OutOfRange
+  scaled_no : l * 2 ^ 149 ≤ q * 2 ^ x → coded l (scaled false q x) ≡ None
   scaled_no h = code_no l (scaled false q x) (q * 2 ^ x) (2 ^ 149) (pow_pos 149) (odd_sign 24 false q x 149) h
 
-  scaled_yes : q * 2 ^ x < l * 2 ^ 149 → coded l (scaled false q x) ≡ Is (65536 * (q * 2 ^ x) / 2 ^ 149)
+  scaled_yes : q * 2 ^ x < l * 2 ^ 149 → coded l (scaled false q x) ≡ Some (65536 * (q * 2 ^ x) / 2 ^ 149)
   scaled_yes h = code_yes l (scaled false q x) (q * 2 ^ x) (2 ^ 149) (pow_pos 149) (odd_sign 24 false q x 149) h
 
 -- An exponent field of all ones is refused, so a refusal of the number that the fields would stand for is a refusal of all.
-special : (l : ℕ) (s : Bool) (b d : Bool) (y : Float) → coded l y ≡ OutOfRange → coded l (cond b (cond d (inf s) nan) y) ≡ OutOfRange
+special : (l : ℕ) (s : Bool) (b d : Bool) (y : Float) → coded l y ≡ None → coded l (cond b (cond d (inf s) nan) y) ≡ None
 unfolding answer_if below
 special l s true true y e = refl
 special l s true false y e = refl
 special l s false d y e = e
 
 -- Below zero.
-minus_refused : (l x t : ℕ) → 0 < x + t → coded l (of_fields binary32 true x t) ≡ OutOfRange
+minus_refused : (l x t : ℕ) → 0 < x + t → coded l (of_fields binary32 true x t) ≡ None
 unfolding of_fields
 minus_refused l zero t h = scaled_minus l t 0 (omega arith)
 minus_refused l (suc x) t h =
@@ -46,7 +46,7 @@ minus_refused l (suc x) t h =
     (scaled_minus l (8388608 + t) x (mul-pos (omega arith) (pow_pos x)))
 
 -- At the limit or above.
-high_refused : (j x t : ℕ) → 127 + j ≤ x → coded (2 ^ j) (of_fields binary32 false x t) ≡ OutOfRange
+high_refused : (j x t : ℕ) → 127 + j ≤ x → coded (2 ^ j) (of_fields binary32 false x t) ≡ None
 unfolding of_fields
 high_refused j zero t h = absurd (omega arith)
 high_refused j (suc x) t h =
@@ -66,7 +66,7 @@ under_ones t x h =
     (not_T (eqb (suc x) 255) (λ u. differ x h (eqb→eq (suc x) 255 u)))
 
 code_normal : (j x t : ℕ) → j ≤ 1 → suc x < 127 + j → t < 8388608
-    → coded (2 ^ j) (of_fields binary32 false (suc x) t) ≡ Is (65536 * ((8388608 + t) * 2 ^ x) / 2 ^ 149)
+    → coded (2 ^ j) (of_fields binary32 false (suc x) t) ≡ Some (65536 * ((8388608 + t) * 2 ^ x) / 2 ^ 149)
 code_normal j x t j≤1 h H =
     ap (coded (2 ^ j)) (under_ones t x (omega arith))
     ∙ scaled_yes (2 ^ j) (8388608 + t) x
@@ -76,14 +76,14 @@ code_normal j x t j≤1 h H =
 tiny : (a : ℕ) → a < 2 ^ 133 → 65536 * a / 2 ^ 149 ≡ 0
 tiny a h = div-eq_of_lt (lt_of_le_of_lt (le_of_eq (mul_comm 65536 a)) (mul-lt-mul_of_pos_right h (lit< {m = 0} {n = 65536} tt)))
 
-low_zero : (j x t : ℕ) → j ≤ 1 → x < 111 → t < 8388608 → coded (2 ^ j) (of_fields binary32 false x t) ≡ Is 0
+low_zero : (j x t : ℕ) → j ≤ 1 → x < 111 → t < 8388608 → coded (2 ^ j) (of_fields binary32 false x t) ≡ Some 0
 low_zero j zero t j≤1 h H = unfold of_fields in
     scaled_yes (2 ^ j) t 0
     (lt_of_lt_of_le (shl_lt 24 0 (omega arith)) (le_trans (pow_mono {i = 24} {j = j + 149} (omega arith)) (le_of_eq (pow-add 2 j 149))))
-    ∙ ap Is (tiny (t * 2 ^ 0) (lt_of_lt_of_le (shl_lt 24 0 (omega arith)) (pow_mono {i = 24} {j = 133} (omega arith))))
+    ∙ ap Some (tiny (t * 2 ^ 0) (lt_of_lt_of_le (shl_lt 24 0 (omega arith)) (pow_mono {i = 24} {j = 133} (omega arith))))
 low_zero j (suc x) t j≤1 h H =
     code_normal j x t j≤1 (omega arith) H
-    ∙ ap Is (tiny ((8388608 + t) * 2 ^ x) (lt_of_lt_of_le (shl_lt 24 x (omega arith)) (pow_mono {i = 24 + x} {j = 133} (omega arith))))
+    ∙ ap Some (tiny ((8388608 + t) * 2 ^ x) (lt_of_lt_of_le (shl_lt 24 x (omega arith)) (pow_mono {i = 24 + x} {j = 133} (omega arith))))
 
 -- From 2 ^ -16 on: the significand without its lowest digits.
 cut : (q x k : ℕ) → x + 16 + k ≡ 149 → 65536 * (q * 2 ^ x) / 2 ^ 149 ≡ q / 2 ^ k
@@ -94,11 +94,11 @@ cut q x k e =
     ap (λ (z : ℕ). z / 2 ^ 149) up ∙ ap (λ (z : ℕ). q * 2 ^ (x + 16) / z) down ∙ mul-div-mul_right q (2 ^ k) (pow_pos (x + 16))
 
 mid_is : (j x t : ℕ) → j ≤ 1 → 111 ≤ x → x < 127 + j → t < 8388608
-    → coded (2 ^ j) (of_fields binary32 false x t) ≡ Is ((8388608 + t) / 2 ^ (134 - x))
+    → coded (2 ^ j) (of_fields binary32 false x t) ≡ Some ((8388608 + t) / 2 ^ (134 - x))
 mid_is j zero t j≤1 l h H = absurd (omega arith)
-mid_is j (suc x) t j≤1 l h H = code_normal j x t j≤1 h H ∙ ap Is (cut (8388608 + t) x (134 - suc x) (omega arith))
+mid_is j (suc x) t j≤1 l h H = code_normal j x t j≤1 h H ∙ ap Some (cut (8388608 + t) x (134 - suc x) (omega arith))
 
-zero_code : (j : ℕ) → coded (2 ^ j) (fin true 0 (pos 0)) ≡ Is 0
+zero_code : (j : ℕ) → coded (2 ^ j) (fin true 0 (pos 0)) ≡ Some 0
 unfolding answer_if below code_of
 zero_code j = ap (λ (b : Bool). answer_if b (fin true 0 (pos 0))) (is_true (ltb 0 (2 ^ j * 1)) (lt→ltb 0 (2 ^ j * 1) (mul-pos (pow_pos j) (lit< tt))))
 
@@ -125,20 +125,20 @@ module _ (x : Float) (F : T (fits binary32 x)) where
       fields
       ∙ ap (λ (s : Bool). of_fields binary32 s (bits % 2147483648 / 8388608) (bits % 8388608)) (is_true (leb 2147483648 bits) (le→leb 2147483648 bits h))
 
-  pub minus_zero : to_bits binary32 x ≡ 2147483648 → (j : ℕ) → coded (2 ^ j) x ≡ Is 0
+  pub minus_zero : to_bits binary32 x ≡ 2147483648 → (j : ℕ) → coded (2 ^ j) x ≡ Some 0
   unfolding of_bits
   minus_zero h j = ap (coded (2 ^ j)) (sym (of_bits-to_bits binary32 x F) ∙ ap (of_bits binary32) h) ∙ zero_code j
 
-  pub negative : (l : ℕ) → 2147483648 < to_bits binary32 x → coded l x ≡ OutOfRange
+  pub negative : (l : ℕ) → 2147483648 < to_bits binary32 x → coded l x ≡ None
   negative l h =
       ap (coded l) (minus (omega arith)) ∙ minus_refused l (bits % 2147483648 / 8388608) (bits % 8388608) (omega (arith, bits_lt))
 
-  pub too_high : (j : ℕ) → to_bits binary32 x < 2147483648 → 127 + j ≤ to_bits binary32 x / 8388608 → coded (2 ^ j) x ≡ OutOfRange
+  pub too_high : (j : ℕ) → to_bits binary32 x < 2147483648 → 127 + j ≤ to_bits binary32 x / 8388608 → coded (2 ^ j) x ≡ None
   too_high j h k = ap (coded (2 ^ j)) (plus h) ∙ high_refused j (bits / 8388608) (bits % 8388608) k
 
-  pub too_low : (j : ℕ) → j ≤ 1 → to_bits binary32 x / 8388608 < 111 → coded (2 ^ j) x ≡ Is 0
+  pub too_low : (j : ℕ) → j ≤ 1 → to_bits binary32 x / 8388608 < 111 → coded (2 ^ j) x ≡ Some 0
   too_low j j≤1 k = ap (coded (2 ^ j)) (plus (omega arith)) ∙ low_zero j (bits / 8388608) (bits % 8388608) j≤1 k (omega arith)
 
   pub between : (j : ℕ) → j ≤ 1 → 111 ≤ to_bits binary32 x / 8388608 → to_bits binary32 x / 8388608 < 127 + j
-      → coded (2 ^ j) x ≡ Is ((8388608 + to_bits binary32 x % 8388608) / 2 ^ (134 - to_bits binary32 x / 8388608))
+      → coded (2 ^ j) x ≡ Some ((8388608 + to_bits binary32 x % 8388608) / 2 ^ (134 - to_bits binary32 x / 8388608))
   between j j≤1 l k = ap (coded (2 ^ j)) (plus (omega arith)) ∙ mid_is j (bits / 8388608) (bits % 8388608) j≤1 l k (omega arith)

@@ -12,11 +12,10 @@ use lib.Ieee.Exact.{HasValue}
 use lib.Ieee.Fits.{down_pos}
 use lib.Ieee.Nearest.{div_same}
 use Rattle.colour.specs.Panel.{below, code_of, answer_if}
-use Rattle.colour.specs.declared.panel.Code.{Code}
-use Rattle.colour.specs.declared.panel.Code.TheVariants.{Is, OutOfRange}
+use Rattle.std.specs.Prelude.{Option, Some, None}
 
 -- A float's code under a limit.
-abbrev pub coded : ℕ → Float → Code
+abbrev pub coded : ℕ → Float → Option ℕ
 coded l x = answer_if (below l x) x
 
 pub code_of_at : (x : Float) (s : Bool) (a c : ℕ) → 0 < c → HasValue x s a c → code_of x ≡ 65536 * a / c
@@ -64,14 +63,14 @@ below_minus l (fin t m e) a c v h =
     rw (v.0, is_false (eqb m 0) (not_T (eqb m 0) (λ t. zero_value m (up e) a (down e) c (down_pos e) h v.1 (eqb→eq m 0 t))))
 
 -- Below the limit, at it or above, and below zero.
-pub code_yes : (l : ℕ) (x : Float) (a c : ℕ) → 0 < c → HasValue x false a c → a < l * c → coded l x ≡ Is (65536 * a / c)
+pub code_yes : (l : ℕ) (x : Float) (a c : ℕ) → 0 < c → HasValue x false a c → a < l * c → coded l x ≡ Some (65536 * a / c)
 unfolding answer_if
 code_yes l x a c C v h = rw (below_yes l x a c v h, code_of_at x false a c C v)
 
-pub code_no : (l : ℕ) (x : Float) (a c : ℕ) → 0 < c → HasValue x false a c → l * c ≤ a → coded l x ≡ OutOfRange
+pub code_no : (l : ℕ) (x : Float) (a c : ℕ) → 0 < c → HasValue x false a c → l * c ≤ a → coded l x ≡ None
 unfolding answer_if
 code_no l x a c C v h = rw (below_no l x a c C v h)
 
-pub code_minus : (l : ℕ) (x : Float) (a c : ℕ) → HasValue x true a c → 0 < a → coded l x ≡ OutOfRange
+pub code_minus : (l : ℕ) (x : Float) (a c : ℕ) → HasValue x true a c → 0 < a → coded l x ≡ None
 unfolding answer_if
 code_minus l x a c v h = rw (below_minus l x a c v h)

@@ -6,7 +6,7 @@ use mathlib.Core.Logic.{◌↔◌}
 use native.Mathlib.Omega.{arith}
 use lib.Dec.{leb, ltb}
 use borrow.Author.Tests.{ltb-true, leb-true, lt-ltb, le-leb, lt-leb}
-use Rattle.colour.specs.declared.Colour.{Colour}
+use Rattle.colour.specs.Channels.{Colour}
 use Rattle.colour.specs.Colour.{Channel, Red, Green, Blue, code_in, colour_by, each, sum_of, is_code, codes_fit, wrapped, InRange}
 use Rattle.colour.specs.Octant.{cube_holds}
 

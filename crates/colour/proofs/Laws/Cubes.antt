@@ -48,6 +48,22 @@ pub child_room : (c : Cube) (s : ℕ) → Within c → c.depth < 16 → s ≡ si
 unfolding depths
 child_room c s w d e h = omega (arith, e, w.sized, w.low h, side_half c.depth d, side_pos (suc c.depth))
 
+-- The same, channel by channel.
+pub cube_room : (c : Cube) → Within c → (1 ≤ c.side) × ((c.low.red + c.side ≤ 65536) × ((c.low.green + c.side ≤ 65536) × (c.low.blue + c.side ≤ 65536)))
+unfolding code_in
+cube_room c w =
+    let red = room c w Channel.Red in
+    let green = room c w Channel.Green in
+    let blue = room c w Channel.Blue in (red.0, (red.1, (green.1, blue.1)))
+
+pub parent_room : (c : Cube) (s : ℕ) → Within c → c.depth < 16 → s ≡ side_at (suc c.depth)
+    → (1 ≤ s) × ((c.low.red + (s + s) ≤ 65536) × ((c.low.green + (s + s) ≤ 65536) × (c.low.blue + (s + s) ≤ 65536)))
+unfolding code_in
+parent_room c s w d e =
+    let red = child_room c s w d e Channel.Red in
+    let green = child_room c s w d e Channel.Green in
+    let blue = child_room c s w d e Channel.Blue in (red.0, (red.1, (green.1, blue.1)))
+
 pub child_within : (c : Cube) (k : ℕ) → Within c → c.depth < 16 → Within (child_cube c k)
 unfolding child_cube depths
 child_within c k w d = record {

@@ -4,7 +4,7 @@ use mathlib.Core.Bool.{true}
 use mathlib.Core.Path.{◌≡◌, refl, ap}
 use native.Mathlib.Nat.{add_comm, mul-le-mul}
 use native.Mathlib.Omega.{arith}
-use Rattle.colour.specs.declared.Colour.{Colour}
+use Rattle.colour.specs.Channels.{Colour}
 use Rattle.colour.specs.Colour.{Channel, Red, Green, Blue, code_in, colour_by, sum_of, codes_fit, black, greatest_distance, apart, distance}
 use Rattle.colour.proofs.Laws.Channels.{sum_grows, sum_term, sum_same, fit_codes}
 

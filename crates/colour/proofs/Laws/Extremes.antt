@@ -7,7 +7,7 @@ use native.Mathlib.Nat.{le_trans, lt_of_le_of_lt}
 use native.Mathlib.Omega.{arith}
 use lib.Dec.{leb}
 use borrow.Author.Tests.{ltb-true, leb-true, leb-false, lt-ltb, le-ltb, le-leb}
-use Rattle.colour.specs.declared.Colour.{Colour}
+use Rattle.colour.specs.Channels.{Colour}
 use Rattle.colour.specs.declared.Region.{Region}
 use Rattle.colour.specs.declared.Region.TheVariants.{Ball, Box}
 use Rattle.colour.specs.Colour.{Channel, code_in, colour_by, each, apart, distance}

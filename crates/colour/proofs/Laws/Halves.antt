@@ -1,11 +1,13 @@
 -- The eight children's tests by the two halves of each channel.
-use Prim.Native.Nat.{ℕ, zero, suc, ◌+◌, ◌*◌, ◌/◌, ◌%◌, ◌<◌}
-use mathlib.Core.Bool.{Bool, true, false, ◌&&◌}
+use Prim.Native.Nat.{ℕ, zero, suc, ◌+◌, ◌*◌, ◌/◌, ◌%◌, ◌<◌, ◌≤◌}
+use mathlib.Core.Bool.{Bool, true, false, not, ◌&&◌}
+use mir.Val.{bool_byte}
 use mathlib.Core.Path.{◌≡◌, refl, sym, ap, ◌∙◌}
 use native.Mathlib.Nat.{zero-add}
 use native.Mathlib.Omega.{arith}
 use lib.Dec.{ltb}
-use Rattle.colour.specs.declared.Colour.{Colour}
+use Rattle.colour.specs.Channels.{Colour}
+use Rattle.colour.specs.declared.Channels.{Channels}
 use Rattle.colour.specs.declared.Region.{Region}
 use Rattle.colour.specs.declared.Region.TheVariants.{Ball, Box}
 use Rattle.colour.specs.declared.overlap.Halves.{Halves}
@@ -71,23 +73,33 @@ module _ (R : Region) (s : ℕ) (low : Colour) where
   child_below_lem halves e k = ap (λ (n : ℕ). ltb n (limit_of R)) (child_sum_lem (share R) s low halves e k) ∙ sym (overlaps_shares R s (child_low s k low))
 
   -- A mask by halves that are known to be the region's, and by its limit.
-  pub mask_overlaps : {red green blue : Halves} {limit m : ℕ}
-      → red ≡ halves_of (share R Red) s (code_in Red low)
-      → green ≡ halves_of (share R Green) s (code_in Green low)
-      → blue ≡ halves_of (share R Blue) s (code_in Blue low)
+  pub mask_overlaps : {halves : Channels Halves} {limit m : ℕ}
+      → halves.red ≡ halves_of (share R Red) s (code_in Red low)
+      → halves.green ≡ halves_of (share R Green) s (code_in Green low)
+      → halves.blue ≡ halves_of (share R Blue) s (code_in Blue low)
       → limit ≡ limit_of R
-      → m ≡ mask_of (child_below (of_channel red green blue) limit) children
+      → m ≡ mask_of (child_below (of_channel halves) limit) children
       → m ≡ overlap_mask R s low
   unfolding overlap_mask of_channel
-  mask_overlaps {red} {green} {blue} r g b l e =
-      e ∙ ap (λ (n : ℕ). mask_of (child_below (of_channel red green blue) n) children) l
-      ∙ mask_same _ _ children (λ k h. child_below_lem (of_channel red green blue) (elim [ Red ↦ r | Green ↦ g | Blue ↦ b ]) k)
+  mask_overlaps {halves} r g b l e =
+      e ∙ ap (λ (n : ℕ). mask_of (child_below (of_channel halves) n) children) l
+      ∙ mask_same _ _ children (λ k h. child_below_lem (of_channel halves) (elim [ Red ↦ r | Green ↦ g | Blue ↦ b ]) k)
 
 -- A mask of the eight children, bit by bit.
 pub mask_bits : (f : ℕ → Bool)
     → bit_if (f 0) 1 + bit_if (f 1) 2 + bit_if (f 2) 4 + bit_if (f 3) 8 + bit_if (f 4) 16 + bit_if (f 5) 32 + bit_if (f 6) 64 + bit_if (f 7) 128 ≡ mask_of f children
 unfolding mask_of children bit_if
 mask_bits f = simp zero-add
+
+-- The byte of a test that is turned round.
+pub noes_byte : (b : Bool) → bool_byte (not b) ≡ noes b
+unfolding noes
+noes_byte true = refl
+noes_byte false = refl
+
+pub noes_most : (b : Bool) → bool_byte (not b) ≤ 1
+noes_most true = omega arith
+noes_most false = omega arith
 
 -- A bit by a test that is known.
 pub bit_yes : {t : Bool} (w : ℕ) → t ≡ true → w ≡ bit_if t w

@@ -1,7 +1,7 @@
 -- The closest d² of an octant's children, by what their halves add up to.
 use Prim.Native.Nat.{ℕ}
 use mathlib.Core.Path.{◌≡◌, refl, sym, ◌∙◌}
-use Rattle.colour.specs.declared.Colour.{Colour}
+use Rattle.colour.specs.Channels.{Colour}
 use Rattle.colour.specs.Colour.{Red, Green, Blue, code_in, distance}
 use Rattle.colour.specs.Octant.{child_low}
 use Rattle.colour.specs.Region.{closest}

@@ -9,7 +9,7 @@ use native.Mathlib.Nat.{div-add-mod', div-eq_of_lt-le, div-mul-le_self, lt-div-m
 use native.Mathlib.Omega.{arith}
 use lib.Dec.{leb-zero, leb-suc-suc}
 use lib.Pow.{pow_pos}
-use Rattle.colour.specs.declared.Colour.{Colour}
+use Rattle.colour.specs.Channels.{Colour}
 use Rattle.colour.specs.Colour.{Channel, code_in, sum_of, is_code, codes_fit, black}
 use Rattle.colour.specs.Octant.{depths, cube_holds, bit_weight, bit_at, child_number, children, child_low, Octant, root, child}
 use Rattle.colour.proofs.Laws.Channels.{Among, each_same, code_by, same_codes, cube_among, fit_codes}

@@ -6,8 +6,8 @@ use mathlib.Core.Path.{◌≡◌, refl, sym, ap, ◌∙◌, subst}
 use native.Mathlib.Omega.{arith}
 use lib.Dec.{ltb}
 use lib.Ieee.{Float}
-use Rattle.colour.specs.declared.Colour.{Colour}
-use Rattle.colour.specs.declared.PanelColour.{PanelColour}
+use Rattle.colour.specs.Channels.{Colour}
+use Rattle.colour.specs.Channels.{PanelColour}
 use Rattle.colour.specs.declared.Query.{Query}
 use Rattle.colour.specs.declared.Query.TheVariants as Q
 use Rattle.colour.specs.declared.Region.{Region}

@@ -8,7 +8,7 @@ use native.Mathlib.Omega.{arith}
 use borrow.Author.Tests.{leb-true, leb-false, le-leb, lt-leb, lt-ltb}
 use lib.Bits.{bit_xor, differ}
 use lib.Dec.{leb}
-use Rattle.colour.specs.declared.Colour.{Colour}
+use Rattle.colour.specs.Channels.{Colour}
 use Rattle.colour.specs.declared.Probe.{Probe}
 use Rattle.traversal.specs.declared.nearby.Squares.{Squares}
 use Rattle.colour.specs.Colour.{Channel, Red, Green, Blue, code_in, colour_by, sum_of, black, apart, distance}

@@ -11,11 +11,11 @@ returns-then-x-low c =
     rw (closest_low _ _ _ c.if-x-low.true) (search rules)
 
 pub returns-then-last-x : goal.returns-then-last-x
-unfolding apart last_code
+unfolding apart
 returns-then-last-x c =
-    rw (closest_high _ _ _ c.if-x-low.false c.if-last-x.true) (search rules)
+    rw (← c.last_of-last.ensures, closest_high _ _ _ c.if-x-low.false c.if-last-x.true) (search rules)
 
 pub returns : goal.returns
-unfolding apart last_code
+unfolding apart
 returns c =
-    rw (closest_self _ _ _ c.if-x-low.false c.if-last-x.false) (search rules)
+    rw (← c.last_of-last.ensures, closest_self _ _ _ c.if-x-low.false c.if-last-x.false) (search rules)

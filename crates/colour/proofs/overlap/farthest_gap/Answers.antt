@@ -1,16 +1,15 @@
 -- The test on the two differences picks the case of the farthest code.
-use Rattle.colour.specs.Octant.{last_code}
+use mathlib.Core.Path.{ap, ◌∙◌}
+use Rattle.colour.specs.Colour.{apart}
 use Rattle.colour.proofs.Laws.Gaps.{farthest_high, farthest_low}
 use Rattle.colour.proofs.overlap.farthest_gap.Goals as goal
 
 pub returns-then-down-up : goal.returns-then-down-up
-unfolding last_code
+unfolding apart
 returns-then-down-up c =
-    let down = c.difference-down.ensures in
-    let up = c.difference-up.ensures in record { is = farthest_high _ _ _ down.is up.is c.if-down-up.true; bounded = up.bounded }
+    farthest_high _ _ _ c.abs_diff-down.ensures (c.abs_diff-up.ensures ∙ ap (apart c.args.x) c.last_of.ensures) c.if-down-up.true
 
 pub returns-else-down-up : goal.returns-else-down-up
-unfolding last_code
+unfolding apart
 returns-else-down-up c =
-    let down = c.difference-down.ensures in
-    let up = c.difference-up.ensures in record { is = farthest_low _ _ _ down.is up.is c.if-down-up.false; bounded = down.bounded }
+    farthest_low _ _ _ c.abs_diff-down.ensures (c.abs_diff-up.ensures ∙ ap (apart c.args.x) c.last_of.ensures) c.if-down-up.false

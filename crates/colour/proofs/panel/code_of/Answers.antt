@@ -8,7 +8,7 @@ use lib.Dec.{T}
 use lib.Ieee.{Float, nan, inf, fin, binary32, fits, is_nan, ne, to_bits}
 use lib.Ieee.Compare.{differs_from_itself, nan_differs}
 use Rattle.colour.specs.Panel.{below, answer_if}
-use Rattle.colour.specs.declared.panel.Code.TheVariants.{Is, OutOfRange}
+use Rattle.std.specs.Prelude.{Some, None}
 use Rattle.colour.proofs.Floats.Value.{coded}
 use Rattle.colour.proofs.Floats.Fields.{bits_lt, minus_zero, negative, too_high, too_low, between}
 use Rattle.colour.proofs.panel.code_of.Goals as goal
@@ -17,7 +17,7 @@ use Rattle.colour.proofs.panel.code_of.Goals.{Start}
 held : (c : Start) → T (fits binary32 c.args.v)
 held c = subst T (sym c.well_formed.0.1) tt
 
-nan-refused : (l : ℕ) (x : Float) → x ≡ nan → OutOfRange ≡ coded l x
+nan-refused : (l : ℕ) (x : Float) → x ≡ nan → None ≡ coded l x
 unfolding answer_if below
 nan-refused l x e = sym (ap (coded l) e)
 
@@ -65,5 +65,5 @@ overflow_add-result c =
 pub returns : goal.returns
 returns c =
     let b = to_bits binary32 c.args.v in
-    ap (λ (t : ℕ). Is ((8388608 + t) / 2 ^ (134 - b / 8388608))) (and_mask b 23)
+    ap (λ (t : ℕ). Some ((8388608 + t) / 2 ^ (134 - b / 8388608))) (and_mask b 23)
     ∙ sym (between c.args.v (held (goal.at.returns c).Start) c.args.twos c.requires c.if-exponent-lt111.false (omega arith))

@@ -9,7 +9,7 @@ use borrow.Author.Tests.{leb-true, ltb-true}
 use mathlib.Core.Bool.{and-eq-true_iff}
 use lib.Dec.{leb, ltb}
 use lib.ListN.{length, length-append}
-use Rattle.colour.specs.declared.Colour.{Colour}
+use Rattle.colour.specs.Channels.{Colour}
 use Rattle.colour.specs.declared.Region.{Region}
 use Rattle.colour.specs.Colour.{black}
 use Rattle.colour.specs.Octant.{depths, children, child_low}

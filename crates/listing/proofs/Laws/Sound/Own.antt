@@ -6,7 +6,7 @@ use mathlib.Core.Path.{◌≡◌, refl, sym, ap, ◌∙◌}
 use native.Mathlib.Omega.{arith}
 use lib.ListN.{length}
 use lib.Pow.{pow_pos}
-use Rattle.colour.specs.declared.Colour.{Colour}
+use Rattle.colour.specs.Channels.{Colour}
 use Rattle.colour.specs.declared.Region.{Region}
 use Rattle.colour.specs.Region.{holds, overlaps, inside}
 use Rattle.colour.proofs.Laws.Extremes.{misses_all, inside_all}

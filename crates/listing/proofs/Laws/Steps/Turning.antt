@@ -9,7 +9,7 @@ use lib.Count.{count_trailing_zeros}
 use lib.Dec.{leb, ltb}
 use lib.ListN.{length, length-append}
 use lib.Seq.{sets, length-sets}
-use Rattle.colour.specs.declared.Colour.{Colour}
+use Rattle.colour.specs.Channels.{Colour}
 use Rattle.colour.specs.declared.Region.{Region}
 use Rattle.colour.specs.Octant.{children, child_low}
 use Rattle.colour.specs.Mask.{mask_of, overlap_mask}

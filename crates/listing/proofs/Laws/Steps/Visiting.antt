@@ -9,7 +9,7 @@ use borrow.Author.Tests.{leb-true, ltb-true}
 use lib.Dec.{leb, ltb}
 use lib.ListN.{length}
 use lib.Seq.{sets}
-use Rattle.colour.specs.declared.Colour.{Colour}
+use Rattle.colour.specs.Channels.{Colour}
 use Rattle.colour.specs.declared.Cube.{Cube}
 use Rattle.colour.specs.declared.Region.{Region}
 use Rattle.colour.specs.Octant.{depths, side_at, children, child_low, child_cube, Within}

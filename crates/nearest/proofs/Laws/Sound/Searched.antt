@@ -10,7 +10,7 @@ use lib.Bits.{bit_xor}
 use lib.Dec.{leb}
 use lib.ListN.{length}
 use Rattle.colour.specs.declared.Settings.{Settings}
-use Rattle.colour.specs.declared.Colour.{Colour}
+use Rattle.colour.specs.Channels.{Colour}
 use Rattle.colour.specs.Octant.{children}
 use Rattle.colour.specs.Nearby.{closest_child}
 use Rattle.model.specs.Lists.{total}

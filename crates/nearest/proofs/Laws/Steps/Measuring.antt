@@ -5,7 +5,7 @@ use mathlib.Core.Path.{◌≡◌, ap, ◌∙◌}
 use native.Mathlib.Nat.{sub-zero}
 use native.Mathlib.Omega.{arith}
 use lib.ListN.{length}
-use Rattle.colour.specs.declared.Colour.{Colour}
+use Rattle.colour.specs.Channels.{Colour}
 use Rattle.model.specs.Layout.{Next, current, sample_rows}
 use Rattle.words.specs.Rows.{sample_field}
 use Rattle.traversal.specs.Own.{rows_from}

@@ -9,9 +9,9 @@ use borrow.Author.Tests.{lt-ltb, le-ltb}
 use lib.Bits.{bit_xor}
 use lib.Dec.{ltb}
 use lib.ListN.{length}
-use Rattle.colour.specs.declared.Colour.{Colour}
+use Rattle.colour.specs.Channels.{Colour}
 use Rattle.colour.specs.declared.Cube.{Cube}
-use Rattle.colour.specs.declared.nearby.Gaps.{Gaps}
+use Rattle.colour.specs.Nearby.{Gaps}
 use Rattle.colour.specs.Colour.{black, distance}
 use Rattle.colour.specs.Octant.{depths, side_at, children, child_low, child_cube}
 use Rattle.colour.specs.Region.{closest}

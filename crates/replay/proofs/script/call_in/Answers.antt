@@ -3,7 +3,7 @@ use Prim.Native.Nat.{ℕ, ◌≤◌}
 use native.Mathlib.Omega.{arith}
 use mathlib.Core.Path.{sym, ap, ap₂, ◌∙◌}
 use lib.Ieee.{Float}
-use Rattle.colour.specs.declared.PanelColour.{PanelColour}
+use Rattle.colour.specs.Channels.{PanelColour}
 use Rattle.colour.specs.declared.Sample.{Sample}
 use Rattle.colour.specs.declared.Query.TheVariants as Q
 use Rattle.replay.specs.declared.calls.Changing.TheVariants as G

@@ -6,7 +6,7 @@ use mathlib.Core.Path.{◌≡◌}
 use native.Mathlib.Omega.{arith}
 use borrow.Author.Tests.{lt-ltb, le-ltb, ltb-true}
 use lib.Dec.{ltb}
-use Rattle.colour.specs.declared.Colour.{Colour}
+use Rattle.colour.specs.Channels.{Colour}
 use Rattle.colour.specs.declared.Probe.{Probe}
 use Rattle.colour.specs.Colour.{distance}
 use Rattle.colour.specs.Octant.{child_low}

@@ -8,7 +8,7 @@ use mathlib.Core.Path.{◌≡◌, refl}
 use native.Mathlib.Omega.{arith}
 use borrow.Author.Tests.{ltb-true}
 use lib.Dec.{ltb}
-use Rattle.colour.specs.declared.Colour.{Colour}
+use Rattle.colour.specs.Channels.{Colour}
 use Rattle.colour.specs.declared.Probe.{Probe}
 use Rattle.colour.specs.Colour.{black, distance}
 use Rattle.colour.specs.Octant.{depths, children, child_low}

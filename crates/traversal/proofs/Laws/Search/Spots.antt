@@ -7,7 +7,7 @@ use native.Mathlib.Numerals.{sub-one}
 use native.Mathlib.Omega.{arith}
 use borrow.Author.Tests.{lt-ltb, le-ltb}
 use lib.Bits.{bit_xor, xor_zero_r}
-use Rattle.colour.specs.declared.Colour.{Colour}
+use Rattle.colour.specs.Channels.{Colour}
 use Rattle.colour.specs.declared.Cube.{Cube}
 use Rattle.colour.specs.declared.Probe.{Probe}
 use Rattle.traversal.specs.declared.nearby.Squares.{Squares}

@@ -1,9 +1,0 @@
--- The greatest code of the octant is from + side - 1.
-use borrow.Author.Rules.{rules}
-use Rattle.colour.specs.Octant.{last_code}
-use Rattle.colour.proofs.overlap.some_between.Goals as goal
-
-pub returns : goal.returns
-unfolding last_code
-returns c =
-    search rules
