@@ -10,13 +10,12 @@ use crate::format::{
     STEP, TAG,
 };
 use colour::{Colour, PanelColour, Query, Sample, Settings};
-use words::number::least;
 
 // How many steps there are words, floats and answer words for.
 pub fn steps_of(words: usize, floats: usize, answers: usize) -> usize
     ensures { result ≡ min (words / step_width) (min (floats / step_width) (answers / answer_width)) }
 {
-    least(words / STEP, least(floats / STEP, answers / ANSWER))
+    (words / STEP).min((floats / STEP).min(answers / ANSWER))
 }
 
 // A word, 0 past the end.
@@ -83,8 +82,8 @@ pub fn call_in(words: &[u32], floats: &[f32]) -> Call
 pub fn sheet_in<'a>(words: &[u32], sheets: &'a [u8]) -> &'a [u8]
     ensures { result.now ≡ sheet_in words.now sheets.now }
 {
-    let start = least(word_at(words, SHEET_START) as usize, sheets.len());
-    let size = least(word_at(words, SHEET_LENGTH) as usize, sheets.len() - start);
+    let start = (word_at(words, SHEET_START) as usize).min(sheets.len());
+    let size = (word_at(words, SHEET_LENGTH) as usize).min(sheets.len() - start);
     let end = start + size;
     &sheets[start..end]
 }
@@ -93,7 +92,7 @@ pub fn sheet_in<'a>(words: &[u32], sheets: &'a [u8]) -> &'a [u8]
 pub fn lent_to(call: Call, words: &[u32], left: usize) -> usize
     ensures { result ≡ min (wants (query_of call) (get_or words.now lent_at 0)) left }
 {
-    let most = least(word_at(words, LENT) as usize, left);
+    let most = (word_at(words, LENT) as usize).min(left);
     match call {
         Call::Clear(_) => 0,
         Call::Change(_) => 0,

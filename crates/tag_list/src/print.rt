@@ -10,7 +10,6 @@ use listing::list::{Listed, list};
 use samples::answers::report_of;
 use samples::clear::clear;
 use samples::load::load;
-use words::number::least;
 
 // The most bytes that are read.
 pub const INPUT_LENGTH: usize = 32768;
@@ -76,7 +75,7 @@ pub fn print(input: &[u8], text: &mut [u8; TEXT_LENGTH]) -> usize
 {
     let mut samples = [0u32; SAMPLE_WORDS];
     let mut octants = [0u32; OCTANT_WORDS];
-    let end = least(INPUT_LENGTH, input.len());
+    let end = INPUT_LENGTH.min(input.len());
     let number = load_sheet(&mut samples, &mut octants, &input[..end]);
     if number != 0 {
         put_refusal(text, number);

@@ -32,6 +32,8 @@ const BLUE: usize = 3;
 const NEXT: usize = 4;
 
 // The places in an octant row: first sample row, last sample row, sample count, child rows.
+const FIRST: usize = 0;
+
 const LAST: usize = 1;
 
 const COUNT: usize = 2;
@@ -61,24 +63,14 @@ pub fn sample_rows(length: usize) -> usize
     ensures is { result ≡ sample_rows current length }
     ensures bounded { result ≤ 4096 }
 {
-    if length < SAMPLE_HEADER {
-        return 0;
-    }
-    let rows = (length - SAMPLE_HEADER) / SAMPLE_WIDTH;
-    if rows < MOST_SAMPLES {
-        return rows;
-    }
-    MOST_SAMPLES
+    (length.saturating_sub(SAMPLE_HEADER) / SAMPLE_WIDTH).min(MOST_SAMPLES)
 }
 
 // The octant rows of a table of that length.
 pub fn octant_rows(length: usize) -> usize
     ensures { result ≡ octant_rows current length }
 {
-    if length < OCTANT_HEADER {
-        return 0;
-    }
-    (length - OCTANT_HEADER) / OCTANT_WIDTH
+    length.saturating_sub(OCTANT_HEADER) / OCTANT_WIDTH
 }
 
 // Where sample row i starts.
@@ -122,23 +114,12 @@ pub fn settings(samples: &[u32]) -> Settings
     }
 }
 
-// The lesser of the count that a table says and the rows that it has.
-fn lesser(said: u32, rows: usize) -> u32
-    ensures { result ≡ min said rows }
-{
-    if (said as usize) <= rows {
-        return said;
-    }
-    rows as u32
-}
-
 // The rows below which an octant may be entered, whatever the words are.
 pub fn octant_limit(octants: &[u32]) -> u32
     requires { octant_header current ≤ length octants.now }
     ensures { result ≡ octant_limit current octants.now }
 {
-    let rows = octant_rows(octants.len());
-    lesser(count(octants), rows)
+    (count(octants) as usize).min(octant_rows(octants.len())) as u32
 }
 
 // The samples that are there to be read, whatever the words are.
@@ -147,8 +128,7 @@ pub fn sample_budget(samples: &[u32]) -> u32
     ensures is { result ≡ sample_budget current samples.now }
     ensures bounded { result ≤ 4096 }
 {
-    let rows = sample_rows(samples.len());
-    lesser(count(samples), rows)
+    (count(samples) as usize).min(sample_rows(samples.len())) as u32
 }
 
 // The tag in row i.
@@ -260,51 +240,43 @@ pub fn octant_child(octants: &[u32], row: u32, k: u32) -> u32
     octants[at + (CHILD + (k as usize))]
 }
 
-// What an octant row says besides its children.
+// What an octant row says.
 #[derive(Clone, Copy)]
 pub struct Octant {
     pub first: u32,
     pub last: u32,
     pub count: u32,
+    pub children: [u32; 8],
+}
+
+impl Octant {
+    // Its row.
+    fn row(&self) -> [u32; OCTANT_WIDTH]
+        ensures { result ≡ octant_row_by current self.now.first self.now.last self.now.count self.now.children }
+    {
+        let mut row = [0; OCTANT_WIDTH];
+        row[FIRST] = self.first;
+        row[LAST] = self.last;
+        row[COUNT] = self.count;
+        row[CHILD..].copy_from_slice(&self.children);
+        row
+    }
 }
 
 // Writes an octant's row at the front of the rows lent.
-pub fn put_octant(rows: &mut [u32], octant: Octant, children: &[u32; 8])
+pub fn put_octant(rows: &mut [u32], octant: &Octant)
     requires { octant_width current ≤ length rows.old }
-    ensures { rows.new ≡ octant_row_by current octant.first octant.last octant.count children.now
+    ensures { rows.new ≡ octant_row_by current octant.now.first octant.now.last octant.now.count octant.now.children
         ++ drop (octant_width current) rows.old }
 {
-    rows[0] = octant.first;
-    rows[LAST] = octant.last;
-    rows[COUNT] = octant.count;
-    let mut k = 0;
-    while k < 8 {
-        rows[CHILD + k] = children[k];
-        k += 1;
-    }
+    rows[..OCTANT_WIDTH].copy_from_slice(&octant.row());
 }
 
 // Whether the row at the front of the rows lent is that octant's.
-pub fn octant_is(rows: &[u32], octant: Octant, children: &[u32; 8]) -> bool
+pub fn octant_is(rows: &[u32], octant: &Octant) -> bool
     requires { octant_width current ≤ length rows.now }
     ensures { (result ≡ true) ↔ (take (octant_width current) rows.now
-        ≡ octant_row_by current octant.first octant.last octant.count children.now) }
+        ≡ octant_row_by current octant.now.first octant.now.last octant.now.count octant.now.children) }
 {
-    if rows[0] != octant.first {
-        return false;
-    }
-    if rows[LAST] != octant.last {
-        return false;
-    }
-    if rows[COUNT] != octant.count {
-        return false;
-    }
-    let mut k = 0;
-    while k < 8 {
-        if rows[CHILD + k] != children[k] {
-            return false;
-        }
-        k += 1;
-    }
-    true
+    rows[..OCTANT_WIDTH] == octant.row()[..]
 }

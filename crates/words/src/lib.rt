@@ -2,5 +2,4 @@
 #![tactic(auto)]
 
 pub mod layout;
-pub mod number;
 pub mod zeros;

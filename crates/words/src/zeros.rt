@@ -5,22 +5,12 @@ ghost use Rattle.std.specs.Prelude.{true, ◌↔◌, ◌≡◌, length, replicat
 pub fn clear(words: &mut [u32])
     ensures { words.new ≡ replicate (length words.old) 0 }
 {
-    let mut i = 0;
-    while i < words.len() {
-        words[i] = 0;
-        i += 1;
-    }
+    words.fill(0);
 }
 
 // Whether every word is 0. All bits are gathered, with no way out of the loop on the way, so that many words are read at a time.
 pub fn are_zero(words: &[u32]) -> bool
     ensures { (result ≡ true) ↔ (words.now ≡ replicate (length words.now) 0) }
 {
-    let mut bits = 0u32;
-    let mut i = 0;
-    while i < words.len() {
-        bits = bits | words[i];
-        i += 1;
-    }
-    bits == 0
+    words.iter().fold(0u32, |bits, word| bits | *word) == 0
 }

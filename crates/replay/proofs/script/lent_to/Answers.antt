@@ -7,14 +7,14 @@ use Rattle.replay.proofs.script.lent_to.Goals as goal
 pub returns-in-Clear : goal.returns-in-Clear
 unfolding query_of wants
 returns-in-Clear c =
-    rw c.in-Clear.is (omega (arith, c.least-most.ensures, c.word_at.ensures))
+    rw c.in-Clear.is (omega (arith, c.min-most.ensures, c.word_at.ensures))
 
 pub returns-in-Change : goal.returns-in-Change
 unfolding query_of wants
 returns-in-Change c =
-    rw c.in-Change.is (omega (arith, c.least-most.ensures, c.word_at.ensures))
+    rw c.in-Change.is (omega (arith, c.min-most.ensures, c.word_at.ensures))
 
 pub returns-in-Ask : goal.returns-in-Ask
 unfolding query_of wants
 returns-in-Ask c =
-    rw c.in-Ask.is (omega (arith, c.least-most.ensures, c.word_at.ensures))
+    rw c.in-Ask.is (omega (arith, c.min-most.ensures, c.word_at.ensures))

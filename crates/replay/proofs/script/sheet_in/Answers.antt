@@ -10,7 +10,7 @@ pub returns : goal.returns
 unfolding sheet_in
 returns c =
     let sheets = c.args.sheets.now in
-    let from = c.least-start in
+    let from = c.min-start in
     part_clipped sheets _ _ from.result _
     (from.ensures ∙ ap (λ (k : ℕ). min k (length sheets)) c.word_at.ensures)
-    (c.least-size.ensures ∙ ap (λ (k : ℕ). min k (length sheets - from.result)) c.word_at-2.ensures)
+    (c.min-size.ensures ∙ ap (λ (k : ℕ). min k (length sheets - from.result)) c.word_at-2.ensures)

@@ -3,10 +3,6 @@ use native.Mathlib.Omega.{arith}
 use Rattle.model.proofs.Tables.Numbers.{current_numbers}
 use Rattle.words.proofs.layout.octant_rows.Goals as goal
 
-pub returns-then-length-lt-OCTANT_HEADER : goal.returns-then-length-lt-OCTANT_HEADER
-returns-then-length-lt-OCTANT_HEADER c =
-    omega (arith, current_numbers.octant_rows_is c.args.length)
-
 pub returns : goal.returns
 returns c =
     omega (arith, current_numbers.octant_rows_is c.args.length)

@@ -9,7 +9,7 @@ unfolding sample_header current
 count-requires c =
     omega arith
 
-pub returns : goal.returns
+pub returns-clause-is : goal.returns-clause-is
 unfolding sample_budget
-returns c =
-    record { is = omega arith; bounded = omega arith }
+returns-clause-is c =
+    omega arith
