@@ -1,6 +1,6 @@
 -- The reference machine (document 01, "The bin": the plain machine; and "Questions").
-use Rattle.std.specs.Prelude.{ℕ, suc, Bool, true, false, not, List, [], ◌∷◌, ◌++◌, leb, eqb, length, drop}
-use Rattle.std.proofs.Math.Option.{Option, none, some}
+use Rattle.std.specs.Prelude.{ℕ, suc, Bool, true, false, not, List, [], ◌∷◌, ◌++◌, leb, eqb, length, drop, Option, None, Some, is_some}
+use Rattle.std.proofs.Math.Option as M
 use Rattle.colour.specs.Channels.{Colour}
 use Rattle.colour.specs.declared.Sample.{Sample}
 use Rattle.colour.specs.declared.Settings.{Settings}
@@ -11,7 +11,6 @@ use Rattle.colour.specs.Colour.{distance, codes_fit}
 use Rattle.colour.specs.Query.{query_questions, in_codes}
 use Rattle.colour.specs.Question.{Question, asks, first_no}
 use Rattle.sheet.specs.declared.line.Line.{Line}
-use Rattle.sheet.specs.Column.{present}
 use Rattle.sheet.specs.Sheet.{line_count, lines_of}
 use Rattle.model.specs.Lists.{keep}
 use Rattle.model.specs.SampleSet.{SampleSet, Placed, settings_good, octants}
@@ -120,8 +119,8 @@ new_questions m s = asks 5 (not (has_tag s.tag m.set.samples)) ∷ fit_questions
 
 -- Of a load's line, 12: good? Then 5, 6, 7 for it.
 unfoldable pub line_questions : Machine → Option Line → List Question
-line_questions m none = asks 12 false ∷ []
-line_questions m (some line) = asks 12 true ∷ new_questions m line.sample
+line_questions m None = asks 12 false ∷ []
+line_questions m (Some line) = asks 12 true ∷ new_questions m line.sample
 
 -- 13: listing holds all?
 unfoldable pub room_questions : List ℕ → List ℕ → List Question
@@ -140,7 +139,7 @@ clear_questions s = asks 3 (settings_good s) ∷ []
 -- nearest 9. Questions 1 and 2 come before these and are put to the tables (`Meets`); after the machine's start they are always yes.
 unfoldable pub questions : Machine → Call → List Question
 questions m (Clear s) = clear_questions s
-questions m (Change (Load sheet)) = asks 11 (present (line_count sheet)) ∷ []
+questions m (Change (Load sheet)) = asks 11 (is_some (line_count sheet)) ∷ []
 questions m (Change (Add s)) = asks 4 (codes_fit s.colour) ∷ new_questions m s
 questions m (Change (Remove t)) = asks 8 (has_tag t m.set.samples) ∷ []
 questions m (Ask q listing) = query_questions q ++ wanted_questions m.set (in_codes q) listing
@@ -157,15 +156,15 @@ loaded m n taken = record { answer = load_answer n taken; set = m.set }
 -- Load adds a sheet's lines in turn, stopping at the first refused; `taken` lines came before these.
 unfoldable pub load_lines : Machine → ℕ → List (Option Line) → Outcome
 load_lines m taken [] = loaded m 0 taken
-load_lines m taken (none ∷ rest) = loaded m (first_no (line_questions m none)) taken
-load_lines m taken (some line ∷ rest) =
-    let n : ℕ = first_no (line_questions m (some line)) in
+load_lines m taken (None ∷ rest) = loaded m (first_no (line_questions m None)) taken
+load_lines m taken (Some line ∷ rest) =
+    let n : ℕ = first_no (line_questions m (Some line)) in
     elim (eqb n 0) [ true ↦ load_lines (with_set m (added m.set line.sample)) (suc taken) rest | false ↦ loaded m n taken ]
 
 -- Nearest gives the tag and d², or says none with both 0; it uses no listing.
-unfoldable pub found_answer : Colour → Option Placed → List ℕ → Answer
-found_answer c none left = nearest_answer 0 false 0 0 left
-found_answer c (some x) left = nearest_answer 0 true (tag_of x) (distance c x.sample.colour) left
+unfoldable pub found_answer : Colour → M.Option Placed → List ℕ → Answer
+found_answer c M.none left = nearest_answer 0 false 0 0 left
+found_answer c (M.some x) left = nearest_answer 0 true (tag_of x) (distance c x.sample.colour) left
 
 -- Ball and box write from the listing's first word and leave the rest.
 unfoldable pub listing_answer : List ℕ → Counts → List ℕ → Answer

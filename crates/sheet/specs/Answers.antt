@@ -1,6 +1,5 @@
 -- The answers of this crate's enums: for each case the paper's number and values (document 01, "Our forms for each place").
-use Rattle.std.specs.Prelude.{ℕ, List}
-use Rattle.std.proofs.Math.Option.{none, some}
+use Rattle.std.specs.Prelude.{ℕ, List, None, Some}
 use Rattle.colour.specs.Refusal.{refusal_number}
 use Rattle.sheet.specs.declared.header.Header.{Header}
 use Rattle.sheet.specs.declared.header.Header.TheVariants as H
@@ -13,13 +12,13 @@ use Rattle.sheet.specs.Sheet.{HeaderAnswer}
 
 -- A header: question 11.
 unfoldable pub header_answer : Header → HeaderAnswer
-header_answer (H.Lines n) = record { number = 0; lines = some n }
-header_answer (H.Refused r) = record { number = refusal_number r; lines = none }
+header_answer (H.Lines n) = record { number = 0; lines = Some n }
+header_answer (H.Refused r) = record { number = refusal_number r; lines = None }
 
 -- A line: question 12.
 unfoldable pub line_answer : Reading → LineAnswer
-line_answer (R.Good l) = record { number = 0; line = some l }
-line_answer (R.Refused r) = record { number = refusal_number r; line = none }
+line_answer (R.Good l) = record { number = 0; line = Some l }
+line_answer (R.Refused r) = record { number = refusal_number r; line = None }
 
 -- A line to write: questions 4, 10, 13.
 abbrev pub written_number : Written → ℕ

@@ -1,6 +1,5 @@
 -- Numbers in columns (document 01, "Sheets"). Text is a list of bytes.
-use Rattle.std.specs.Prelude.{ℕ, zero, suc, ◌+◌, ◌-◌, ◌*◌, ◌/◌, ◌%◌, Bool, true, false, ◌&&◌, List, [], ◌∷◌, ◌++◌, leb, ltb, eqb, length, replicate}
-use Rattle.std.proofs.Math.Option.{Option, none, some}
+use Rattle.std.specs.Prelude.{ℕ, zero, suc, ◌+◌, ◌-◌, ◌*◌, ◌/◌, ◌%◌, Bool, true, false, ◌&&◌, List, [], ◌∷◌, ◌++◌, leb, ltb, eqb, length, replicate, Option, None, Some}
 
 -- A blank is byte 32, a newline byte 10.
 unfoldable pub blank : ℕ
@@ -24,23 +23,18 @@ trimmed (x ∷ rest) = elim (eqb x blank) [ true ↦ trimmed rest | false ↦ x 
 
 -- The decimal number that n followed by these digits gives; none where a byte is no digit.
 unfoldable pub digits_after : ℕ → List ℕ → Option ℕ
-digits_after n [] = some n
-digits_after n (x ∷ rest) = elim (digit_byte x) [ true ↦ digits_after (10 * n + (x - 48)) rest | false ↦ none ]
+digits_after n [] = Some n
+digits_after n (x ∷ rest) = elim (digit_byte x) [ true ↦ digits_after (10 * n + (x - 48)) rest | false ↦ None ]
 
 -- Decimal, no leading zero but in 0 itself.
 unfoldable pub decimal_in : List ℕ → Option ℕ
-decimal_in [] = none
+decimal_in [] = None
 decimal_in (x ∷ []) = digits_after 0 (x ∷ [])
-decimal_in (x ∷ (y ∷ rest)) = elim (eqb x 48) [ true ↦ none | false ↦ digits_after 0 (x ∷ (y ∷ rest)) ]
+decimal_in (x ∷ (y ∷ rest)) = elim (eqb x 48) [ true ↦ None | false ↦ digits_after 0 (x ∷ (y ∷ rest)) ]
 
 -- The number in a column: decimal, right-justified, blanks before it.
 unfoldable pub column_number : List ℕ → Option ℕ
 column_number s = decimal_in (trimmed s)
-
--- Whether there is an answer.
-unfoldable pub present : {A : Type 0} → Option A → Bool
-present none = false
-present (some a) = true
 
 -- The digits of n, w at the most.
 unfoldable pub decimal : ℕ → ℕ → List ℕ

@@ -1,6 +1,6 @@
 -- Names that open definitions together. A proof that computes with them says `unfolding sheet_computes`.
 use Rattle.colour.specs.Computes.{colour_computes}
-use Rattle.sheet.specs.Column.{blank, newline, between, digit_byte, trimmed, digits_after, decimal_in, column_number, present, decimal, column_of}
+use Rattle.sheet.specs.Column.{blank, newline, between, digit_byte, trimmed, digits_after, decimal_in, column_number, decimal, column_of}
 use Rattle.sheet.specs.Line.{tag_columns, code_columns, name_columns, red_start, green_start, blue_start, blank_at, name_start, newline_at, line_length}
 use Rattle.sheet.specs.Line.{name_byte, leading, name_good, name_field_good, line_from, name_field, line_formed, code_column, line_numbers, line_of, read_line}
 use Rattle.sheet.specs.Line.{number_columns, line_bytes, write_number, write_line}
@@ -17,7 +17,7 @@ sheet_numbers = tt
 
 -- Every definition of this crate and of `colour`.
 unfoldable pub sheet_computes : Unit {0}
-unfolding colour_computes sheet_numbers blank newline between digit_byte trimmed digits_after decimal_in column_number present within decimal column_of put_at
+unfolding colour_computes sheet_numbers blank newline between digit_byte trimmed digits_after decimal_in column_number within decimal column_of put_at
     name_byte leading name_good name_field_good line_from name_length_in name_field line_formed code_column line_numbers line_of read_line
     number_columns line_bytes write_number write_line
     same_bytes header_formed count_if line_count read_header line_part lines_from lines_by lines_of

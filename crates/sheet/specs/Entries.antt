@@ -1,6 +1,5 @@
 -- Sheets of written lines: what the laws of the round trip speak of. No call's promise cites these.
-use Rattle.std.specs.Prelude.{ℕ, Bool, true, false, ◌&&◌, List, [], ◌∷◌, ◌++◌, map, eqb, length}
-use Rattle.std.proofs.Math.Option.{Option, some}
+use Rattle.std.specs.Prelude.{ℕ, Bool, true, false, ◌&&◌, List, [], ◌∷◌, ◌++◌, map, eqb, length, Option, Some}
 use Rattle.colour.specs.declared.Sample.{Sample}
 use Rattle.colour.specs.Colour.{is_tag, codes_fit}
 use Rattle.sheet.specs.declared.line.Line.{Line}
@@ -37,7 +36,7 @@ unfoldable pub line_said : Entry → Line
 line_said e = record { sample = e.sample; name_length = length e.name }
 
 unfoldable pub lines_said : List Entry → List (Option Line)
-lines_said es = map (λ e. some (line_said e)) es
+lines_said es = map (λ e. Some (line_said e)) es
 
 -- The name in the first entry with the tag; the empty name where there is none.
 unfoldable pub name_for : ℕ → List Entry → List ℕ

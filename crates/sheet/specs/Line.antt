@@ -1,12 +1,11 @@
 -- Reel names and sheet lines, read and written (document 01, "Sheets").
-use Rattle.std.specs.Prelude.{ℕ, ◌+◌, ◌-◌, Bool, true, false, ◌&&◌, List, [], ◌∷◌, ◌++◌, leb, eqb, length, take, drop, get_or, replicate}
-use Rattle.std.proofs.Math.Option.{Option, none, some}
+use Rattle.std.specs.Prelude.{ℕ, ◌+◌, ◌-◌, Bool, true, false, ◌&&◌, List, [], ◌∷◌, ◌++◌, leb, eqb, length, take, drop, get_or, replicate, Option, None, Some, is_some}
 use Rattle.colour.specs.Channels.{Colour}
 use Rattle.colour.specs.declared.Sample.{Sample}
 use Rattle.colour.specs.Colour.{is_tag, codes_fit}
 use Rattle.colour.specs.Question.{asks, first_no}
 use Rattle.sheet.specs.declared.line.Line.{Line}
-use Rattle.sheet.specs.Column.{between, blank, newline, trimmed, column_number, present, column_of}
+use Rattle.sheet.specs.Column.{between, blank, newline, trimmed, column_number, column_of}
 
 -- The columns of a line, and where each starts.
 unfoldable pub tag_columns : ℕ
@@ -59,13 +58,13 @@ name_field_good s = name_good (leading s) && eqb (length (trimmed (drop (length 
 
 -- A line from its numbers, where each column has one and tag and codes are in range.
 unfoldable pub line_from : Option ℕ → Option ℕ → Option ℕ → Option ℕ → ℕ → Option Line
-line_from none r g b n = none
-line_from (some t) none g b n = none
-line_from (some t) (some r) none b n = none
-line_from (some t) (some r) (some g) none n = none
-line_from (some t) (some r) (some g) (some b) n =
+line_from None r g b n = None
+line_from (Some t) None g b n = None
+line_from (Some t) (Some r) None b n = None
+line_from (Some t) (Some r) (Some g) None n = None
+line_from (Some t) (Some r) (Some g) (Some b) n =
     let c : Colour = record { red = r; green = g; blue = b } in
-    elim (is_tag t && codes_fit c) [ true ↦ some (record { sample = record { tag = t; colour = c }; name_length = n }) | false ↦ none ]
+    elim (is_tag t && codes_fit c) [ true ↦ Some (record { sample = record { tag = t; colour = c }; name_length = n }) | false ↦ None ]
 
 -- The columns of a line's name.
 unfoldable pub name_field : List ℕ → List ℕ
@@ -90,7 +89,7 @@ line_numbers s n =
 
 -- A line is good when so formed, with tag and codes in range; none where it is not.
 unfoldable pub line_of : List ℕ → Option Line
-line_of s = elim (line_formed s) [ true ↦ line_numbers s (length (leading (name_field s))) | false ↦ none ]
+line_of s = elim (line_formed s) [ true ↦ line_numbers s (length (leading (name_field s))) | false ↦ None ]
 
 -- What the reading of a line gives back: the number, and what a good line says.
 pub record LineAnswer : Type 0 where
@@ -99,7 +98,7 @@ pub record LineAnswer : Type 0 where
 
 -- Question 12: line good?
 unfoldable pub line_asked : Option Line → LineAnswer
-line_asked l = record { number = first_no (asks 12 (present l) ∷ []); line = l }
+line_asked l = record { number = first_no (asks 12 (is_some l) ∷ []); line = l }
 
 -- A line read.
 unfoldable pub read_line : List ℕ → LineAnswer

@@ -1,11 +1,10 @@
 -- Whole sheets: the header, the lines, and the name lookup (document 01, "Sheets").
-use Rattle.std.specs.Prelude.{ℕ, zero, suc, ◌+◌, ◌*◌, ◌≤◌, Bool, true, false, ◌&&◌, List, [], ◌∷◌, ◌≡◌, eqb, length, take, drop, get_or}
-use Rattle.std.proofs.Math.Option.{Option, none, some}
+use Rattle.std.specs.Prelude.{ℕ, zero, suc, ◌+◌, ◌*◌, ◌≤◌, Bool, true, false, ◌&&◌, List, [], ◌∷◌, ◌≡◌, eqb, length, take, drop, get_or, Option, None, Some, is_some}
 use Rattle.std.specs.Borrow.{Bor}
 use Rattle.colour.specs.Question.{asks, first_no}
 use Rattle.sheet.specs.declared.line.Line.{Line}
 use Rattle.sheet.specs.declared.lookup.Part.{Part}
-use Rattle.sheet.specs.Column.{newline, column_number, present}
+use Rattle.sheet.specs.Column.{newline, column_number}
 use Rattle.sheet.specs.Line.{line_of, line_length, name_start}
 
 -- The eight bytes `SWATCHES`.
@@ -37,9 +36,9 @@ header_formed s = same_bytes (take (length title) s) title && eqb (get_or s (len
 
 -- A count, where the header is so formed and the sheet is exactly as long as it says.
 unfoldable pub count_if : Bool → Option ℕ → List ℕ → Option ℕ
-count_if false n s = none
-count_if true none s = none
-count_if true (some n) s = elim (eqb (length s) (line_start n)) [ true ↦ some n | false ↦ none ]
+count_if false n s = None
+count_if true None s = None
+count_if true (Some n) s = elim (eqb (length s) (line_start n)) [ true ↦ Some n | false ↦ None ]
 
 -- A header is good when so formed and the sheet is exactly 15 + 62 × count bytes. Question 11 asks this; the count is the
 -- number of lines, none where the header is not good.
@@ -53,7 +52,7 @@ pub record HeaderAnswer : Type 0 where
 
 -- A header read.
 unfoldable pub read_header : List ℕ → HeaderAnswer
-read_header s = record { number = first_no (asks 11 (present (line_count s)) ∷ []); lines = line_count s }
+read_header s = record { number = first_no (asks 11 (is_some (line_count s)) ∷ []); lines = line_count s }
 
 -- Line k: the part of the sheet that starts at byte 15 + 62 × k.
 unfoldable pub line_part : List ℕ → ℕ → List ℕ
@@ -66,8 +65,8 @@ lines_from s k (suc n) = line_of (line_part s k) ∷ lines_from s (suc k) n
 
 -- The lines that a header counts; one that is not good counts none.
 unfoldable pub lines_by : Option ℕ → List ℕ → List (Option Line)
-lines_by none s = []
-lines_by (some n) s = lines_from s 0 n
+lines_by None s = []
+lines_by (Some n) s = lines_from s 0 n
 
 -- A sheet's lines.
 unfoldable pub lines_of : List ℕ → List (Option Line)
@@ -84,14 +83,14 @@ bytes_of p s = take p.size (drop p.start s)
 -- Whether all lines are good.
 unfoldable pub all_good : List (Option Line) → Bool
 all_good [] = true
-all_good (none ∷ rest) = false
-all_good (some l ∷ rest) = all_good rest
+all_good (None ∷ rest) = false
+all_good (Some l ∷ rest) = all_good rest
 
 -- The part that holds the name in the first line with the tag, of lines from line k on; the empty part if there is none.
 unfoldable pub name_part_from : ℕ → ℕ → List (Option Line) → Part
 name_part_from tag k [] = empty_part
-name_part_from tag k (none ∷ rest) = name_part_from tag (suc k) rest
-name_part_from tag k (some l ∷ rest) =
+name_part_from tag k (None ∷ rest) = name_part_from tag (suc k) rest
+name_part_from tag k (Some l ∷ rest) =
     elim (eqb l.sample.tag tag) [
       | true ↦ record { start = line_start k + name_start; size = l.name_length }
       | false ↦ name_part_from tag (suc k) rest

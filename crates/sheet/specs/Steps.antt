@@ -1,19 +1,18 @@
 -- What the functions under the calls promise. No call's own promise cites these.
-use Rattle.std.specs.Prelude.{ℕ, ◌+◌, true, false, List, ◌++◌, leb, length, take, drop}
-use Rattle.std.proofs.Math.Option.{Option, none, some}
+use Rattle.std.specs.Prelude.{ℕ, ◌+◌, true, false, List, ◌++◌, leb, length, take, drop, Option, None, Some}
 use Rattle.sheet.specs.declared.column.Number.{Number}
 use Rattle.sheet.specs.declared.column.Number.TheVariants as N
 use Rattle.sheet.specs.Line.{leading, name_field_good}
 
 -- A number in a column.
 unfoldable pub number_is : Number → Option ℕ
-number_is (N.Is n) = some n
-number_is N.Missing = none
+number_is (N.Is n) = Some n
+number_is N.Missing = None
 
 -- A number that is at most `most`; none where it is greater.
 unfoldable pub within : ℕ → Option ℕ → Option ℕ
-within most none = none
-within most (some n) = elim (leb n most) [ true ↦ some n | false ↦ none ]
+within most None = None
+within most (Some n) = elim (leb n most) [ true ↦ Some n | false ↦ None ]
 
 -- The greatest tag and the greatest code, as the columns are read with them; `no_tag` and `no_code` show them to be those of
 -- `is_tag` and `is_code`.

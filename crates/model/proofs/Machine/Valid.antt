@@ -2,7 +2,7 @@
 use Prim.Native.Nat.{ℕ, suc, ◌≤◌}
 use mathlib.Core.Bool.{Bool, true, false, not}
 use mathlib.Core.List.{List, [], ◌∷◌, ◌++◌}
-use mathlib.Core.Option.{Option, none, some}
+use Rattle.std.specs.Prelude.{Option, None, Some}
 use mathlib.Core.Path.{◌≡◌, refl, ap, ◌∙◌}
 use native.Mathlib.Numerals.{add-one}
 use lib.ListN.{length, length-append}
@@ -86,14 +86,14 @@ started_valid s n k h g q =
 lines_valid : (lines : List (Option Line)) (m : Machine) (k : ℕ) → Valid current m → AllRanged lines → Valid current (with_set m (load_lines m k lines).set)
 unfolding loaded load_lines line_questions AllRanged Ranged with_set
 lines_valid [] m k v f = v
-lines_valid (none ∷ rest) m k v f = v
-lines_valid (some l ∷ rest) m k v f =
-    go (eqb (first_no (line_questions m (some l))) 0) refl (λ w. lines_valid rest (with_set m (added m.set l.sample)) (suc k) w f.1)
+lines_valid (None ∷ rest) m k v f = v
+lines_valid (Some l ∷ rest) m k v f =
+    go (eqb (first_no (line_questions m (Some l))) 0) refl (λ w. lines_valid rest (with_set m (added m.set l.sample)) (suc k) w f.1)
   where
-    go : (r : Bool) → eqb (first_no (line_questions m (some l))) 0 ≡ r
+    go : (r : Bool) → eqb (first_no (line_questions m (Some l))) 0 ≡ r
         → (Valid current (with_set m (added m.set l.sample))
         → Valid current (with_set m (load_lines (with_set m (added m.set l.sample)) (suc k) rest).set))
-        → Valid current (with_set m (load_lines m k (some l ∷ rest)).set)
+        → Valid current (with_set m (load_lines m k (Some l ∷ rest)).set)
     go true e h =
         let q12 = asked 12 true (new_questions m l.sample) (λ z. omega arith) (eqb-true _ 0 e) in
         rw (load_lines, e) (h (added_valid m l.sample v f.0.codes q12.1))

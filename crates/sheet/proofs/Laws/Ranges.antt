@@ -2,7 +2,7 @@
 use Prim.Native.Nat.{ℕ, zero, suc}
 use mathlib.Core.Bool.{Bool, true, false, ◌&&◌, and-eq-true_iff}
 use mathlib.Core.List.{List, [], ◌∷◌}
-use mathlib.Core.Option.{Option, none, some}
+use Rattle.std.specs.Prelude.{Option, None, Some}
 use mathlib.Core.Path.{◌≡◌, refl}
 use Rattle.colour.specs.Colour.{is_tag, codes_fit}
 use Rattle.sheet.specs.declared.line.Line.{Line}
@@ -15,25 +15,25 @@ pub record GoodRange (l : Line) : Type 0 where
   pub codes : codes_fit l.sample.colour ≡ true
 
 unfoldable pub Ranged : Option Line → Type 0
-Ranged none = Unit {0}
-Ranged (some l) = GoodRange l
+Ranged None = Unit {0}
+Ranged (Some l) = GoodRange l
 
 unfoldable pub AllRanged : List (Option Line) → Type 0
 AllRanged [] = Unit {0}
 AllRanged (l ∷ rest) = Ranged l × AllRanged rest
 
 -- What holds of no line, and of each line with tag and codes in range, holds of what a line's numbers say.
-pub from_holds : (P : Option Line → Type 0) (t r g b : Option ℕ) (n : ℕ) → P none
-    → ((l : Line) → l.name_length ≡ n → GoodRange l → P (some l)) → P (line_from t r g b n)
+pub from_holds : (P : Option Line → Type 0) (t r g b : Option ℕ) (n : ℕ) → P None
+    → ((l : Line) → l.name_length ≡ n → GoodRange l → P (Some l)) → P (line_from t r g b n)
 unfolding line_from
-from_holds P none r g b n none-does ranged-does = none-does
-from_holds P (some t) none g b n none-does ranged-does = none-does
-from_holds P (some t) (some r) none b n none-does ranged-does = none-does
-from_holds P (some t) (some r) (some g) none n none-does ranged-does = none-does
-from_holds P (some t) (some r) (some g) (some b) n none-does ranged-does = go (is_tag t && codes_fit (record { red = r; green = g; blue = b })) refl
+from_holds P None r g b n none-does ranged-does = none-does
+from_holds P (Some t) None g b n none-does ranged-does = none-does
+from_holds P (Some t) (Some r) None b n none-does ranged-does = none-does
+from_holds P (Some t) (Some r) (Some g) None n none-does ranged-does = none-does
+from_holds P (Some t) (Some r) (Some g) (Some b) n none-does ranged-does = go (is_tag t && codes_fit (record { red = r; green = g; blue = b })) refl
   where
     go : (q : Bool) → (is_tag t && codes_fit (record { red = r; green = g; blue = b })) ≡ q
-        → P (line_from (some t) (some r) (some g) (some b) n)
+        → P (line_from (Some t) (Some r) (Some g) (Some b) n)
     go true e =
         let h = (and-eq-true_iff (is_tag t) _).0 e in
         rw (e, line_from) (ranged-does _ refl (record { tag = h.0; codes = h.1 }))
@@ -54,8 +54,8 @@ lines_ranged s k (suc n) = (line_ranged (line_part s k), lines_ranged s (suc k) 
 
 by_ranged : (n : Option ℕ) (s : List ℕ) → AllRanged (lines_by n s)
 unfolding AllRanged lines_by
-by_ranged none s = tt
-by_ranged (some n) s = lines_ranged s 0 n
+by_ranged None s = tt
+by_ranged (Some n) s = lines_ranged s 0 n
 
 pub sheet_ranged : (s : List ℕ) → AllRanged (lines_of s)
 unfolding lines_of

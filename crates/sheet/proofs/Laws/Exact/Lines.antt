@@ -2,7 +2,8 @@
 use Prim.Native.Nat.{ℕ, suc, ◌+◌, ◌-◌, ◌*◌, ◌/◌, ◌%◌, ◌^◌, ◌≤◌, ◌<◌}
 use mathlib.Core.Bool.{Bool, true, false, and-eq-true_iff}
 use mathlib.Core.List.{List, [], ◌∷◌, ◌++◌, append-nil, append_assoc}
-use mathlib.Core.Option.{some, none-ne-some, some-injective}
+use Rattle.std.specs.Prelude.{Some}
+use Rattle.std.proofs.lemmas.Option.{none-some, same_Some}
 use mathlib.Core.Path.{◌≡◌, refl, sym, ap, ◌∙◌}
 use native.Mathlib.Nat.{pow-suc, pow-le-pow_right}
 use native.Mathlib.Omega.{arith}
@@ -45,10 +46,10 @@ module _ (x : ℕ) (d : digit_byte x ≡ true) where
       sym (column_more w (10 * m + (x - 48)) (omega arith) ∙ rw (tenth, digit))
 
 -- What m followed by these digits says is written as m and these digits, where m is no leading zero.
-digits_exact : (w m n : ℕ) (s : List ℕ) → (0 < length s → 0 < m) → digits_after m s ≡ some n → column_of w m ++ s ≡ column_of (w + length s) n
+digits_exact : (w m n : ℕ) (s : List ℕ) → (0 < length s → 0 < m) → digits_after m s ≡ Some n → column_of w m ++ s ≡ column_of (w + length s) n
 unfolding digits_after
 digits_exact w m n [] leads e =
-    let same : m ≡ n = some-injective m n e in
+    let same : m ≡ n = same_Some m n e in
     let all : w + 0 ≡ w = omega arith in
     rw (append-nil, all, same)
 digits_exact w m n (x ∷ rest) leads e =
@@ -56,27 +57,27 @@ digits_exact w m n (x ∷ rest) leads e =
     go (digit_byte x) refl pos (digits_exact (suc w) (10 * m + (x - 48)) n rest (λ h. omega arith))
   where
     go : (q : Bool) → digit_byte x ≡ q → 0 < m
-        → (digits_after (10 * m + (x - 48)) rest ≡ some n → column_of (suc w) (10 * m + (x - 48)) ++ rest ≡ column_of (suc w + length rest) n)
+        → (digits_after (10 * m + (x - 48)) rest ≡ Some n → column_of (suc w) (10 * m + (x - 48)) ++ rest ≡ column_of (suc w + length rest) n)
         → column_of w m ++ (x ∷ rest) ≡ column_of (w + suc (length rest)) n
     go true d pos ih =
         let size : w + suc (length rest) ≡ suc w + length rest = omega arith in
         rw (size, ← ih (sym (one_digit m x rest d) ∙ e), ← next_digit x d w m pos, append_assoc)
-    go false d pos ih = absurd (none-ne-some n (sym (not_digit m x rest d) ∙ e))
+    go false d pos ih = absurd (none-some n (sym (not_digit m x rest d) ∙ e))
 
 -- What reads as a decimal number: at least one digit, and no leading zero where others follow.
 record Decimal (s : List ℕ) (n : ℕ) : Type 0 where
   some_digit : 0 < length s
   leads : 1 < length s → get_or s 0 0 ≡ 48 → ⊥
-  says : digits_after 0 s ≡ some n
+  says : digits_after 0 s ≡ Some n
 
-is_decimal : (s : List ℕ) (n : ℕ) → decimal_in s ≡ some n → Decimal s n
+is_decimal : (s : List ℕ) (n : ℕ) → decimal_in s ≡ Some n → Decimal s n
 unfolding decimal_in
-is_decimal [] n e = absurd (none-ne-some n e)
+is_decimal [] n e = absurd (none-some n e)
 is_decimal (x ∷ []) n e = record { some_digit = omega arith; leads = λ h. absurd (omega arith); says = e }
 is_decimal (x ∷ (y ∷ rest)) n e = go (eqb x 48) refl
   where
     go : (q : Bool) → eqb x 48 ≡ q → Decimal (x ∷ (y ∷ rest)) n
-    go true z = absurd (none-ne-some n (rw (z, decimal_in) at e))
+    go true z = absurd (none-some n (rw (z, decimal_in) at e))
     go false z = record { some_digit = omega arith; leads = λ h. eqb-false x 48 z; says = rw (z, decimal_in) at e }
 
 -- It is written so, whatever the blanks before it.
@@ -90,10 +91,10 @@ decimal_exact k n (x ∷ rest) g = go (digit_byte x) refl
         let digit : 10 * 0 + (x - 48) ≡ x - 48 = omega arith in
         let leads : (0 < length rest → 0 < x - 48) = λ h. let other = g.leads (omega arith) in omega (arith, low x d) in
         rw (size, ← digits_exact (suc k) (x - 48) n rest leads (rw digit at (sym (one_digit 0 x rest d) ∙ g.says)), ← first_digit x d k, append_assoc)
-    go false d = absurd (none-ne-some n (sym (not_digit 0 x rest d) ∙ g.says))
+    go false d = absurd (none-some n (sym (not_digit 0 x rest d) ∙ g.says))
 
 -- A column that reads as n is the column written from n, of the same width.
-pub column_exact : (s : List ℕ) (n : ℕ) → column_number s ≡ some n → s ≡ column_of (length s) n
+pub column_exact : (s : List ℕ) (n : ℕ) → column_number s ≡ Some n → s ≡ column_of (length s) n
 unfolding column_number
 column_exact s n e =
     let blanks : ℕ = length s - length (trimmed s) in
@@ -101,24 +102,24 @@ column_exact s n e =
     blanks_before s ∙ rw (decimal_exact blanks n (trimmed s) (is_decimal (trimmed s) n e), size)
 
 -- Each digit more gives at most one more power of ten.
-digits_fit : (w m n : ℕ) (s : List ℕ) → m < 10 ^ w → digits_after m s ≡ some n → n < 10 ^ (w + length s)
+digits_fit : (w m n : ℕ) (s : List ℕ) → m < 10 ^ w → digits_after m s ≡ Some n → n < 10 ^ (w + length s)
 unfolding digits_after
 digits_fit w m n [] h e =
-    let same : m ≡ n = some-injective m n e in
+    let same : m ≡ n = same_Some m n e in
     let all : w + 0 ≡ w = omega arith in
     rw (all, ← same) h
 digits_fit w m n (x ∷ rest) h e = go (digit_byte x) refl (digits_fit (suc w) (10 * m + (x - 48)) n rest)
   where
     go : (q : Bool) → digit_byte x ≡ q
-        → (10 * m + (x - 48) < 10 ^ suc w → digits_after (10 * m + (x - 48)) rest ≡ some n → n < 10 ^ (suc w + length rest))
+        → (10 * m + (x - 48) < 10 ^ suc w → digits_after (10 * m + (x - 48)) rest ≡ Some n → n < 10 ^ (suc w + length rest))
         → n < 10 ^ (w + suc (length rest))
     go true d ih =
         let size : w + suc (length rest) ≡ suc w + length rest = omega arith in
         rw size (ih (omega (arith, pow-suc 10 w, high x d)) (sym (one_digit m x rest d) ∙ e))
-    go false d ih = absurd (none-ne-some n (sym (not_digit m x rest d) ∙ e))
+    go false d ih = absurd (none-some n (sym (not_digit m x rest d) ∙ e))
 
 -- A column that reads as n has as many columns as n has digits, at the least.
-pub column_fits : (s : List ℕ) (n : ℕ) → column_number s ≡ some n → n < 10 ^ length s
+pub column_fits : (s : List ℕ) (n : ℕ) → column_number s ≡ Some n → n < 10 ^ length s
 unfolding column_number
 column_fits s n e =
     let h : n < 10 ^ (0 + length (trimmed s)) = digits_fit 0 0 n (trimmed s) (omega arith) (is_decimal (trimmed s) n e).says in
@@ -148,27 +149,27 @@ record Good (s : List ℕ) (l : Line) : Type 0 where
   formed : Formed s
   numbers : Numbers (column_number (take tag_columns s)) (codes (code_column s red_start) (code_column s green_start) (code_column s blue_start)) (length (leading (name_field s))) l
 
-good_line : (s : List ℕ) (l : Line) → line_of s ≡ some l → Good s l
+good_line : (s : List ℕ) (l : Line) → line_of s ≡ Some l → Good s l
 unfolding line_of line_numbers
 good_line s l e = go (line_formed s) refl
   where
     go : (q : Bool) → line_formed s ≡ q → Good s l
     go true t = record { formed = formed s t; numbers = says _ _ _ _ _ l (rw (t, line_of) at e) }
-    go false t = absurd (none-ne-some l (rw (t, line_of) at e))
+    go false t = absurd (none-some l (rw (t, line_of) at e))
 
 -- The column that starts at byte `at` and reads as n is the column written from n.
-pub number_exact : (s : List ℕ) (at w n : ℕ) → at + w ≤ length s → column_number (take w (drop at s)) ≡ some n
+pub number_exact : (s : List ℕ) (at w n : ℕ) → at + w ≤ length s → column_number (take w (drop at s)) ≡ Some n
     → drop at s ≡ column_of w n ++ drop (at + w) s
 number_exact s at w n room e =
     part_first s at w ∙ ap (λ (t : List ℕ). t ++ drop (at + w) s) (rw (part_length s at w room) at (column_exact (take w (drop at s)) n e))
 
 -- The parts of a good line, each as it is written: the tag, a code wherever its column starts, the blank, the name's columns, the newline.
 module _ (s : List ℕ) (f : Formed s) where
-  tag_exact : (n : ℕ) → column_number (take tag_columns s) ≡ some n → s ≡ column_of tag_columns n ++ drop tag_columns s
+  tag_exact : (n : ℕ) → column_number (take tag_columns s) ≡ Some n → s ≡ column_of tag_columns n ++ drop tag_columns s
   unfolding sheet_numbers
   tag_exact n e = number_exact s 0 tag_columns n (omega (arith, f.long)) e
 
-  code_exact : (at n : ℕ) → at ≤ blue_start → code_column s at ≡ some n → drop at s ≡ column_of code_columns n ++ drop (at + code_columns) s
+  code_exact : (at n : ℕ) → at ≤ blue_start → code_column s at ≡ Some n → drop at s ≡ column_of code_columns n ++ drop (at + code_columns) s
   unfolding code_column blank_at name_start newline_at line_length
   code_exact at n h e = number_exact s at code_columns n (omega (arith, f.long)) e
 
@@ -193,17 +194,17 @@ name_is : (s : List ℕ) (l : Line) → Good s l → take l.name_length (drop na
 name_is s l g = rw (← g.numbers.size, name_exact s g.formed) (take-append_seam (leading (name_field s)) _)
 
 -- It is a good name, of the length that the line says.
-pub line_name_good : (s : List ℕ) (l : Line) → line_of s ≡ some l → name_good (take l.name_length (drop name_start s)) ≡ true
+pub line_name_good : (s : List ℕ) (l : Line) → line_of s ≡ Some l → name_good (take l.name_length (drop name_start s)) ≡ true
 unfolding name_field_good
 line_name_good s l e =
     let g = good_line s l e in
     rw (name_is s l g) ((and-eq-true_iff (name_good (leading (name_field s))) _).0 g.formed.named).0
 
-pub line_name_size : (s : List ℕ) (l : Line) → line_of s ≡ some l → length (take l.name_length (drop name_start s)) ≡ l.name_length
+pub line_name_size : (s : List ℕ) (l : Line) → line_of s ≡ Some l → length (take l.name_length (drop name_start s)) ≡ l.name_length
 line_name_size s l e = let g = good_line s l e in ap length (name_is s l g) ∙ g.numbers.size
 
 -- A good line is the line written from its sample and its name.
-pub line_exact : (s : List ℕ) (l : Line) → line_of s ≡ some l → s ≡ line_bytes l.sample (take l.name_length (drop name_start s))
+pub line_exact : (s : List ℕ) (l : Line) → line_of s ≡ Some l → s ≡ line_bytes l.sample (take l.name_length (drop name_start s))
 unfolding code_in red_start green_start blue_start blank_at number_columns line_bytes
 line_exact s l e =
     let g = good_line s l e in
@@ -215,6 +216,6 @@ line_exact s l e =
     rw (name_is s l g) (simp append_assoc (cc (blank_exact s f, name_exact s f, newline_exact s f)))
 
 -- So two good lines that say the same, and hold the same name, are the same bytes.
-pub same_line : (s t : List ℕ) (l : Line) → line_of s ≡ some l → line_of t ≡ some l
+pub same_line : (s t : List ℕ) (l : Line) → line_of s ≡ Some l → line_of t ≡ Some l
     → take l.name_length (drop name_start s) ≡ take l.name_length (drop name_start t) → s ≡ t
 same_line s t l e f name = line_exact s l e ∙ ap (line_bytes l.sample) name ∙ sym (line_exact t l f)

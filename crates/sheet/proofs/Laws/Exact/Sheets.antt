@@ -2,7 +2,7 @@
 use Prim.Native.Nat.{ℕ, zero, suc, ◌+◌, ◌^◌, ◌≤◌, ◌<◌}
 use mathlib.Core.Bool.{true}
 use mathlib.Core.List.{List, [], ◌∷◌, ◌++◌, append_assoc}
-use mathlib.Core.Option.{Option, none, some}
+use Rattle.std.specs.Prelude.{Option, None, Some}
 use mathlib.Core.Path.{◌≡◌, refl, sym, ap, ◌∙◌}
 use native.Mathlib.Omega.{arith}
 use lib.ListN.{length, take, drop, take-append-drop, drop_of_length-le}
@@ -23,7 +23,7 @@ unfolding line_start
 header_room s n f = omega (arith, f.whole)
 
 -- It starts with the header written for its number of lines.
-pub header_exact : (s : List ℕ) (n : ℕ) → line_count s ≡ some n → s ≡ header_bytes n ++ drop header_length s
+pub header_exact : (s : List ℕ) (n : ℕ) → line_count s ≡ Some n → s ≡ header_bytes n ++ drop header_length s
 unfolding header_bytes header_length
 header_exact s n e =
     let f = formed s n e in
@@ -41,20 +41,20 @@ entry_of s l = record { sample = l.sample; name = take l.name_length (drop name_
 -- The entries that the good lines of a sheet say, of lines from line k on, and of all its lines.
 unfoldable pub entries_from : List ℕ → ℕ → List (Option Line) → List Entry
 entries_from s k [] = []
-entries_from s k (none ∷ rest) = entries_from s (suc k) rest
-entries_from s k (some l ∷ rest) = entry_of (line_part s k) l ∷ entries_from s (suc k) rest
+entries_from s k (None ∷ rest) = entries_from s (suc k) rest
+entries_from s k (Some l ∷ rest) = entry_of (line_part s k) l ∷ entries_from s (suc k) rest
 
 abbrev pub entries_of : List ℕ → List (Option Line) → List Entry
 entries_of s lines = entries_from s 0 lines
 
 -- The entry that a good line says is good, and the line written from it says the same.
-entry_good_lem : (s : List ℕ) (l : Line) → line_of s ≡ some l → entry_good (entry_of s l) ≡ true
+entry_good_lem : (s : List ℕ) (l : Line) → line_of s ≡ Some l → entry_good (entry_of s l) ≡ true
 unfolding entry_good entry_of Ranged
 entry_good_lem s l e =
     let r : GoodRange l = rw e at (line_ranged s) in
     rw (r.tag, r.codes, line_name_good s l e)
 
-entry_says : (s : List ℕ) (l : Line) → line_of s ≡ some l → line_said (entry_of s l) ≡ l
+entry_says : (s : List ℕ) (l : Line) → line_of s ≡ Some l → line_said (entry_of s l) ≡ l
 unfolding line_said entry_of
 entry_says s l e = rw (line_name_size s l e)
 
@@ -85,8 +85,8 @@ lines_exact s k (suc n) whole g =
     go : (o : Option Line) → line_of (line_part s k) ≡ o → all_good (o ∷ rest) ≡ true
         → (all_good rest ≡ true → Entries s (suc k) n rest (entries_from s (suc k) rest))
         → Entries s k (suc n) (o ∷ rest) (entries_from s k (o ∷ rest))
-    go none e g ih = record { bytes = cc; count = cc; good = cc; same = cc }
-    go (some l) e g ih =
+    go None e g ih = record { bytes = cc; count = cc; good = cc; same = cc }
+    go (Some l) e g ih =
         let h = ih g in
         record {
           bytes = cc (part_first s (line_start k) line_length, line_ends k, line_exact (line_part s k) l e, h.bytes);
@@ -96,7 +96,7 @@ lines_exact s k (suc n) whole g =
         }
 
 -- A sheet whose header and lines are all good.
-module _ (s : List ℕ) (n : ℕ) (lines : List (Option Line)) (header : line_count s ≡ some n) (e : lines_of s ≡ lines) (g : all_good lines ≡ true) where
+module _ (s : List ℕ) (n : ℕ) (lines : List (Option Line)) (header : line_count s ≡ Some n) (e : lines_of s ≡ lines) (g : all_good lines ≡ true) where
   -- Its header counts its entries.
   counted : Entries s 0 n lines (entries_of s lines)
   unfolding lines_of lines_by
@@ -123,6 +123,6 @@ module _ (s : List ℕ) (n : ℕ) (lines : List (Option Line)) (header : line_co
       (counted.good, rw counted.count few, counted.same)
 
 -- So two such sheets that say the same entries are the same bytes.
-pub same_sheet : (s t : List ℕ) (n : ℕ) (lines : List (Option Line)) → line_count s ≡ some n → lines_of s ≡ lines → line_count t ≡ some n → lines_of t ≡ lines
+pub same_sheet : (s t : List ℕ) (n : ℕ) (lines : List (Option Line)) → line_count s ≡ Some n → lines_of s ≡ lines → line_count t ≡ Some n → lines_of t ≡ lines
     → all_good lines ≡ true → entries_of s lines ≡ entries_of t lines → s ≡ t
 same_sheet s t n lines c e d f g same = sheet_exact s n lines c e g ∙ ap sheet_bytes same ∙ sym (sheet_exact t n lines d f g)

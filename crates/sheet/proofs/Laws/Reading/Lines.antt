@@ -2,7 +2,8 @@
 use Prim.Native.Nat.{ℕ, ◌-◌, ◌≤◌, ◌<◌, ◌^◌}
 use mathlib.Core.Bool.{Bool, true, false, ◌&&◌, and-false, and-true, and-eq-true_iff}
 use mathlib.Core.List.{List}
-use mathlib.Core.Option.{Option, none, some, none-ne-some, some-injective}
+use Rattle.std.specs.Prelude.{Option, None, Some}
+use Rattle.std.proofs.lemmas.Option.{none-some, same_Some}
 use mathlib.Core.Path.{◌≡◌, refl, sym, ap, ◌∙◌}
 use native.Mathlib.Omega.{arith}
 use borrow.Author.Tests.{le-leb, eq-eqb, ne_eqb, leb-false, ltb-true, lt-ltb, eqb-true}
@@ -16,7 +17,7 @@ use Rattle.colour.proofs.Laws.Channels.{fit_codes}
 use Rattle.sheet.specs.declared.line.Line.{Line}
 use Rattle.sheet.specs.declared.line.Reading.TheVariants as R
 use Rattle.sheet.specs.Answers.{line_answer}
-use Rattle.sheet.specs.Column.{blank, newline, trimmed, present}
+use Rattle.sheet.specs.Column.{blank, newline, trimmed}
 use Rattle.sheet.specs.Line.{blank_at, newline_at, line_length}
 use Rattle.sheet.specs.Line.{leading, name_good, name_field_good, line_from, name_columns, name_field, line_formed, line_numbers, line_of, line_asked}
 use Rattle.sheet.specs.Steps.{within, name_length_in, greatest_tag, greatest_code}
@@ -26,18 +27,18 @@ use Rattle.sheet.proofs.Laws.Names.{name_good_lem}
 use Rattle.sheet.proofs.Laws.Ranges.{GoodRange, Ranged, from_holds}
 
 -- The answer of a line that is not good, and of a good one.
-pub line_refused : (l : Option Line) → none ≡ l → line_answer (R.Refused Q.Line) ≡ line_asked l
-unfolding line_answer line_asked present first_no
+pub line_refused : (l : Option Line) → None ≡ l → line_answer (R.Refused Q.Line) ≡ line_asked l
+unfolding line_answer line_asked first_no
 line_refused l e = rw (sym e)
 
-pub line_good : (k : Line) (l : Option Line) → some k ≡ l → line_answer (R.Good k) ≡ line_asked l
-unfolding line_answer line_asked present first_no
+pub line_good : (k : Line) (l : Option Line) → Some k ≡ l → line_answer (R.Good k) ≡ line_asked l
+unfolding line_answer line_asked first_no
 line_good k l e = rw (sym e)
 
 -- A line that says something has all its numbers: the tag, a code in each channel, and the name's length.
 pub record Numbers (t : Option ℕ) (f : Channel → Option ℕ) (n : ℕ) (l : Line) : Type 0 where
-  pub tag : t ≡ some l.sample.tag
-  pub code : (h : Channel) → f h ≡ some (code_in h l.sample.colour)
+  pub tag : t ≡ Some l.sample.tag
+  pub code : (h : Channel) → f h ≡ Some (code_in h l.sample.colour)
   pub size : n ≡ l.name_length
 
 abbrev pub codes : Option ℕ → Option ℕ → Option ℕ → Channel → Option ℕ
@@ -45,61 +46,61 @@ codes r g b Red = r
 codes r g b Green = g
 codes r g b Blue = b
 
-of_line : (k l : Line) → k ≡ l → Numbers (some k.sample.tag) (codes (some k.sample.colour.red) (some k.sample.colour.green) (some k.sample.colour.blue)) k.name_length l
+of_line : (k l : Line) → k ≡ l → Numbers (Some k.sample.tag) (codes (Some k.sample.colour.red) (Some k.sample.colour.green) (Some k.sample.colour.blue)) k.name_length l
 unfolding code_in
 of_line k l e = record {
-  tag = ap (λ (x : Line). some x.sample.tag) e;
-  code = elim [ Red ↦ ap (λ (x : Line). some x.sample.colour.red) e | Green ↦ ap (λ (x : Line). some x.sample.colour.green) e | Blue ↦ ap (λ (x : Line). some x.sample.colour.blue) e ];
+  tag = ap (λ (x : Line). Some x.sample.tag) e;
+  code = elim [ Red ↦ ap (λ (x : Line). Some x.sample.colour.red) e | Green ↦ ap (λ (x : Line). Some x.sample.colour.green) e | Blue ↦ ap (λ (x : Line). Some x.sample.colour.blue) e ];
   size = ap (λ (x : Line). x.name_length) e;
 }
 
-pub says : (t r g b : Option ℕ) (n : ℕ) (l : Line) → line_from t r g b n ≡ some l → Numbers t (codes r g b) n l
+pub says : (t r g b : Option ℕ) (n : ℕ) (l : Line) → line_from t r g b n ≡ Some l → Numbers t (codes r g b) n l
 unfolding line_from
-says none r g b n l e = absurd (none-ne-some l e)
-says (some t) none g b n l e = absurd (none-ne-some l e)
-says (some t) (some r) none b n l e = absurd (none-ne-some l e)
-says (some t) (some r) (some g) none n l e = absurd (none-ne-some l e)
-says (some t) (some r) (some g) (some b) n l e = go (is_tag t && codes_fit (record { red = r; green = g; blue = b })) refl
+says None r g b n l e = absurd (none-some l e)
+says (Some t) None g b n l e = absurd (none-some l e)
+says (Some t) (Some r) None b n l e = absurd (none-some l e)
+says (Some t) (Some r) (Some g) None n l e = absurd (none-some l e)
+says (Some t) (Some r) (Some g) (Some b) n l e = go (is_tag t && codes_fit (record { red = r; green = g; blue = b })) refl
   where
-    go : (q : Bool) → (is_tag t && codes_fit (record { red = r; green = g; blue = b })) ≡ q → Numbers (some t) (codes (some r) (some g) (some b)) n l
+    go : (q : Bool) → (is_tag t && codes_fit (record { red = r; green = g; blue = b })) ≡ q → Numbers (Some t) (codes (Some r) (Some g) (Some b)) n l
     go true h =
         let line : Line = record { sample = record { tag = t; colour = record { red = r; green = g; blue = b } }; name_length = n } in
-        let same : some line ≡ some l = rw (h, line_from) at e in
-        of_line line l (some-injective line l same)
-    go false h = let none_is : none ≡ some l = rw (h, line_from) at e in absurd (none-ne-some l none_is)
+        let same : Some line ≡ Some l = rw (h, line_from) at e in
+        of_line line l (same_Some line l same)
+    go false h = let none_is : None ≡ Some l = rw (h, line_from) at e in absurd (none-some l none_is)
 
 -- Without one of its numbers, or with one out of range, a line says nothing.
 module _ (t r g b : Option ℕ) (n : ℕ) where
-  unless : ((l : Line) → line_from t r g b n ≡ some l → ⊥) → none ≡ line_from t r g b n
+  unless : ((l : Line) → line_from t r g b n ≡ Some l → ⊥) → None ≡ line_from t r g b n
   unless never = go (line_from t r g b n) refl
     where
-      go : (o : Option Line) → line_from t r g b n ≡ o → none ≡ line_from t r g b n
-      go none e = sym e
-      go (some l) e = absurd (never l e)
+      go : (o : Option Line) → line_from t r g b n ≡ o → None ≡ line_from t r g b n
+      go None e = sym e
+      go (Some l) e = absurd (never l e)
 
-  ranged : (l : Line) → line_from t r g b n ≡ some l → GoodRange l
+  ranged : (l : Line) → line_from t r g b n ≡ Some l → GoodRange l
   unfolding Ranged
   ranged l h = rw h at (from_holds Ranged t r g b n tt (λ l n r. r))
 
-  pub no_tag : none ≡ within greatest_tag t → none ≡ line_from t r g b n
+  pub no_tag : None ≡ within greatest_tag t → None ≡ line_from t r g b n
   unfolding is_tag
   no_tag e = unless (λ l h.
       let fits : l.sample.tag ≤ greatest_tag = omega (arith, ltb-true l.sample.tag (2 ^ 32) (ranged l h).tag) in
-      none-ne-some l.sample.tag (e ∙ ap (within greatest_tag) (says t r g b n l h).tag ∙ within_yes greatest_tag _ fits))
+      none-some l.sample.tag (e ∙ ap (within greatest_tag) (says t r g b n l h).tag ∙ within_yes greatest_tag _ fits))
 
-  pub no_code : (h : Channel) → none ≡ within greatest_code (codes r g b h) → none ≡ line_from t r g b n
+  pub no_code : (h : Channel) → None ≡ within greatest_code (codes r g b h) → None ≡ line_from t r g b n
   no_code h e = unless (λ l k.
       let fits : code_in h l.sample.colour ≤ greatest_code = (fit_codes l.sample.colour).0 (ranged l k).codes h in
-      none-ne-some (code_in h l.sample.colour) (e ∙ ap (within greatest_code) ((says t r g b n l k).code h) ∙ within_yes greatest_code _ fits))
+      none-some (code_in h l.sample.colour) (e ∙ ap (within greatest_code) ((says t r g b n l k).code h) ∙ within_yes greatest_code _ fits))
 
 -- With all its numbers in range it says them.
-pub all_numbers : (t r g b : Option ℕ) (s : Sample) (n : ℕ) → some s.tag ≡ within greatest_tag t
-    → ((h : Channel) → some (code_in h s.colour) ≡ within greatest_code (codes r g b h))
-    → some (record { sample = s; name_length = n }) ≡ line_from t r g b n
+pub all_numbers : (t r g b : Option ℕ) (s : Sample) (n : ℕ) → Some s.tag ≡ within greatest_tag t
+    → ((h : Channel) → Some (code_in h s.colour) ≡ within greatest_code (codes r g b h))
+    → Some (record { sample = s; name_length = n }) ≡ line_from t r g b n
 unfolding line_from is_tag code_in
 all_numbers t r g b s n et ec =
     let tag = within_some greatest_tag t s.tag et in
-    let code : (h : Channel) → (codes r g b h ≡ some (code_in h s.colour)) × (code_in h s.colour ≤ greatest_code) = λ h. within_some greatest_code (codes r g b h) (code_in h s.colour) (ec h) in
+    let code : (h : Channel) → (codes r g b h ≡ Some (code_in h s.colour)) × (code_in h s.colour ≤ greatest_code) = λ h. within_some greatest_code (codes r g b h) (code_in h s.colour) (ec h) in
     let tag_fits : is_tag s.tag ≡ true = lt-ltb s.tag (2 ^ 32) (omega (arith, tag.1)) in
     let good : (is_tag s.tag && codes_fit s.colour) ≡ true = (and-eq-true_iff _ _).1 (tag_fits, (fit_codes s.colour).1 (λ h. (code h).1)) in
     rw (tag.0, (code Red).0, (code Green).0, (code Blue).0) (rw (good, line_from))
@@ -171,24 +172,24 @@ forms s f =
 
 -- A line that fails one of its tests is not good; one that passes them says its numbers, beside its name.
 module _ (s : List ℕ) where
-  not_formed : (Formed s → ⊥) → none ≡ line_of s
+  not_formed : (Formed s → ⊥) → None ≡ line_of s
   unfolding line_of
   not_formed never = go (line_formed s) refl
     where
-      go : (q : Bool) → line_formed s ≡ q → none ≡ line_of s
+      go : (q : Bool) → line_formed s ≡ q → None ≡ line_of s
       go true e = absurd (never (formed s e))
       go false e = rw (e, line_of)
 
-  pub other_length : (length s ≡ line_length → ⊥) → none ≡ line_of s
+  pub other_length : (length s ≡ line_length → ⊥) → None ≡ line_of s
   other_length h = not_formed (λ f. h f.long)
 
-  pub no_blank : (get_or s blank_at 0 ≡ blank → ⊥) → none ≡ line_of s
+  pub no_blank : (get_or s blank_at 0 ≡ blank → ⊥) → None ≡ line_of s
   no_blank h = not_formed (λ f. h f.parted)
 
-  pub no_newline : (get_or s newline_at 0 ≡ newline → ⊥) → none ≡ line_of s
+  pub no_newline : (get_or s newline_at 0 ≡ newline → ⊥) → None ≡ line_of s
   no_newline h = not_formed (λ f. h f.ended)
 
-  pub no_name : 0 ≡ name_length_in (name_field s) → none ≡ line_of s
+  pub no_name : 0 ≡ name_length_in (name_field s) → None ≡ line_of s
   no_name h = not_formed (λ f. omega (arith, good (name_field s) f.named, some_bytes (name_field s) f.named))
 
   pub has_name : (n : ℕ) → n ≡ name_length_in (name_field s) → (n ≡ 0 → ⊥) → length s ≡ line_length → get_or s blank_at 0 ≡ blank → get_or s newline_at 0 ≡ newline

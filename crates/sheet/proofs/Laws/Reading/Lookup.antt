@@ -2,7 +2,7 @@
 use Prim.Native.Nat.{ℕ, zero, suc, ◌+◌, ◌-◌, ◌≤◌, ◌<◌}
 use mathlib.Core.Bool.{Bool, true, false}
 use mathlib.Core.List.{List, ◌∷◌}
-use mathlib.Core.Option.{Option, none, some}
+use Rattle.std.specs.Prelude.{Option, None, Some}
 use mathlib.Core.Path.{◌≡◌, refl, sym, ap, ◌∙◌}
 use native.Mathlib.Numerals.{add-one}
 use native.Mathlib.Omega.{arith}
@@ -33,7 +33,7 @@ unfolding read_line line_asked
 line_says r x s same e = ap (λ (a : LineAnswer). a.line) (ap line_answer (sym same) ∙ e)
 
 -- The name of a good line has 1 to 32 bytes.
-name_length : (s : List ℕ) (l : Line) → line_of s ≡ some l → (1 ≤ l.name_length) × (l.name_length ≤ name_columns)
+name_length : (s : List ℕ) (l : Line) → line_of s ≡ Some l → (1 ≤ l.name_length) × (l.name_length ≤ name_columns)
 name_length s l e =
     let size = line_name_size s l e in
     let g = name_good_lem _ (line_name_good s l e) in
@@ -61,27 +61,27 @@ pending p tag k lines = where_good (all_good lines) (or_else p (name_part_from t
 
 -- What a good line leaves: the name was found already, the line has another tag, or its name is the one.
 module _ (p : Part) (tag k : ℕ) (l : Line) (rest : List (Option Line)) where
-  another : (l.sample.tag ≡ tag → ⊥) → name_part_from tag k (some l ∷ rest) ≡ name_part_from tag (k + 1) rest
+  another : (l.sample.tag ≡ tag → ⊥) → name_part_from tag k (Some l ∷ rest) ≡ name_part_from tag (k + 1) rest
   unfolding name_part_from
   another h = rw (ne_eqb l.sample.tag tag h, name_part_from, add-one)
 
-  the_one : l.sample.tag ≡ tag → name_part_from tag k (some l ∷ rest) ≡ record { start = line_start k + name_start; size = l.name_length }
+  the_one : l.sample.tag ≡ tag → name_part_from tag k (Some l ∷ rest) ≡ record { start = line_start k + name_start; size = l.name_length }
   unfolding name_part_from
   the_one h = rw (eq-eqb l.sample.tag tag h, name_part_from)
 
-  one_more : (q : Part) → or_else p (name_part_from tag k (some l ∷ rest)) ≡ or_else q (name_part_from tag (k + 1) rest)
-      → pending p tag k (some l ∷ rest) ≡ pending q tag (k + 1) rest
+  one_more : (q : Part) → or_else p (name_part_from tag k (Some l ∷ rest)) ≡ or_else q (name_part_from tag (k + 1) rest)
+      → pending p tag k (Some l ∷ rest) ≡ pending q tag (k + 1) rest
   unfolding pending all_good
   one_more q e = ap (where_good (all_good rest)) e
 
-  after : (p.size ≡ 0 → ⊥) → pending p tag k (some l ∷ rest) ≡ pending p tag (k + 1) rest
+  after : (p.size ≡ 0 → ⊥) → pending p tag k (Some l ∷ rest) ≡ pending p tag (k + 1) rest
   after h = one_more p (found p _ h ∙ sym (found p _ h))
 
-  passed : (l.sample.tag ≡ tag → ⊥) → pending p tag k (some l ∷ rest) ≡ pending p tag (k + 1) rest
+  passed : (l.sample.tag ≡ tag → ⊥) → pending p tag k (Some l ∷ rest) ≡ pending p tag (k + 1) rest
   passed h = one_more p (ap (or_else p) (another h))
 
   hit : p.size ≡ 0 → l.sample.tag ≡ tag → (l.name_length ≡ 0 → ⊥)
-      → pending p tag k (some l ∷ rest) ≡ pending (record { start = line_start k + name_start; size = l.name_length }) tag (k + 1) rest
+      → pending p tag k (Some l ∷ rest) ≡ pending (record { start = line_start k + name_start; size = l.name_length }) tag (k + 1) rest
   hit h same named = one_more _ (not_found p _ h ∙ the_one same ∙ sym (found _ _ named))
 
 -- The state of a lookup before line k, with the part found so far: what is left to find gives the part that it hands back.
@@ -100,11 +100,11 @@ unfolding lines_of name_part where_good
 looked_up_lem s tag o e = ap (λ (n : Option ℕ). looked_up tag (lines_by n s)) e
 
 -- A sheet without a good header, and the first line of one with it.
-pub no_header : (s : List ℕ) (tag : ℕ) → none ≡ line_count s → empty_part ≡ name_part s tag
+pub no_header : (s : List ℕ) (tag : ℕ) → None ≡ line_count s → empty_part ≡ name_part s tag
 unfolding lines_by name_part_from all_good where_good
-no_header s tag e = sym (looked_up_lem s tag none (sym e))
+no_header s tag e = sym (looked_up_lem s tag None (sym e))
 
-pub begins : (s : List ℕ) (tag count : ℕ) → some count ≡ line_count s → SoFar s tag count 0 0 0
+pub begins : (s : List ℕ) (tag count : ℕ) → Some count ≡ line_count s → SoFar s tag count 0 0 0
 unfolding lines_by pending or_else
 begins s tag count e =
     let all : count ≡ count - 0 = omega arith in
@@ -112,7 +112,7 @@ begins s tag count e =
       reached = omega arith;
       fits = λ j h. line_fits s count j (sym e) h;
       unfound = λ z. refl;
-      left = looked_up_lem s tag (some count) (sym e) ∙ ap (λ (n : ℕ). looked_up tag (lines_from s 0 n)) all;
+      left = looked_up_lem s tag (Some count) (sym e) ∙ ap (λ (n : ℕ). looked_up tag (lines_from s 0 n)) all;
     }
 
 -- From one state to the next.
@@ -125,9 +125,9 @@ module _ {s : List ℕ} {tag count k start size : ℕ} (h : SoFar s tag count k 
       h.left ∙ rw (one, lines_from, e, add-one)
 
   -- A line that is not good.
-  pub bad_line : k < count → none ≡ line_of (line_part s k) → empty_part ≡ name_part s tag
+  pub bad_line : k < count → None ≡ line_of (line_part s k) → empty_part ≡ name_part s tag
   unfolding pending all_good where_good
-  bad_line more e = sym (next more none e)
+  bad_line more e = sym (next more None e)
 
   -- No line left.
   pub ends : count ≤ k → record { start = start; size = size } ≡ name_part s tag
@@ -141,9 +141,9 @@ module _ {s : List ℕ} {tag count k start size : ℕ} (h : SoFar s tag count k 
       go false e = found _ _ (eqb-false size 0 e)
 
   -- A good line: the name was found before it, it has another tag, or its name is the one.
-  module _ (more : k < count) {l : Line} (e : some l ≡ line_of (line_part s k)) where
+  module _ (more : k < count) {l : Line} (e : Some l ≡ line_of (line_part s k)) where
     onward : {start' size' : ℕ} → (size' ≡ 0 → start' ≡ 0)
-        → pending (record { start = start; size = size }) tag k (some l ∷ lines_from s (k + 1) (count - (k + 1)))
+        → pending (record { start = start; size = size }) tag k (Some l ∷ lines_from s (k + 1) (count - (k + 1)))
         ≡ pending (record { start = start'; size = size' }) tag (k + 1) (lines_from s (k + 1) (count - (k + 1)))
         → SoFar s tag count (k + 1) start' size'
     onward z w = record { reached = omega arith; fits = h.fits; unfound = z; left = next more _ e ∙ w }
@@ -165,11 +165,11 @@ Within p m = p.start + p.size ≤ m
 
 -- A name lies in its line, so within the bytes up to the line's end, and each name among lines from line k on.
 line_within : (tag k m : ℕ) (l : Line) (rest : List (Option Line)) → l.name_length ≤ name_columns → line_start (suc k) ≤ m
-    → Within (name_part_from tag (suc k) rest) m → Within (name_part_from tag k (some l ∷ rest)) m
+    → Within (name_part_from tag (suc k) rest) m → Within (name_part_from tag k (Some l ∷ rest)) m
 unfolding name_part_from line_length newline_at
 line_within tag k m l rest short room h = go (eqb l.sample.tag tag) refl
   where
-    go : (q : Bool) → eqb l.sample.tag tag ≡ q → Within (name_part_from tag k (some l ∷ rest)) m
+    go : (q : Bool) → eqb l.sample.tag tag ≡ q → Within (name_part_from tag k (Some l ∷ rest)) m
     go true e = rw (e, name_part_from) (omega (arith, line_ends k))
     go false e = rw (e, name_part_from) h
 
@@ -181,8 +181,8 @@ from_within s tag k (suc n) m fits =
   where
     go : (o : Option Line) → line_of (line_part s k) ≡ o → Within (name_part_from tag (suc k) (lines_from s (suc k) n)) m
         → Within (name_part_from tag k (o ∷ lines_from s (suc k) n)) m
-    go none e h = h
-    go (some l) e h = line_within tag k m l (lines_from s (suc k) n) (name_length (line_part s k) l e).1 (fits k (omega arith)) h
+    go None e h = h
+    go (Some l) e h = line_within tag k m l (lines_from s (suc k) n) (name_length (line_part s k) l e).1 (fits k (omega arith)) h
 
 good_within : (good : Bool) (p : Part) (m : ℕ) → Within p m → Within (where_good good p) m
 unfolding where_good empty_part
@@ -195,9 +195,9 @@ unfolding lines_by where_good empty_part name_part_from all_good
 name_within s tag = go (line_count s) refl
   where
     go : (o : Option ℕ) → line_count s ≡ o → Within (name_part s tag) (length s)
-    go none e = rw (looked_up_lem s tag none e) (omega arith)
-    go (some n) e =
-        rw (looked_up_lem s tag (some n) e)
+    go None e = rw (looked_up_lem s tag None e) (omega arith)
+    go (Some n) e =
+        rw (looked_up_lem s tag (Some n) e)
         (good_within (all_good (lines_from s 0 n)) (name_part_from tag 0 (lines_from s 0 n)) (length s)
         (from_within s tag 0 n (length s) (λ j h. line_fits s n j e (omega arith))))
 

@@ -2,7 +2,7 @@
 use Prim.Native.Nat.{ℕ}
 use mathlib.Core.Bool.{true, ◌&&◌, and-eq-true_iff}
 use mathlib.Core.List.{List, [], ◌∷◌, ◌++◌, append-nil, append_assoc}
-use mathlib.Core.Option.{some}
+use Rattle.std.specs.Prelude.{Some}
 use mathlib.Core.Path.{◌≡◌, refl, sym, ◌∙◌}
 use native.Mathlib.Omega.{arith}
 use lib.ListN.{length, take, drop, get_or, length-append}
@@ -49,18 +49,18 @@ module _ (s : Sample) (name : List ℕ) where
   line_is = sym (append-nil (line_bytes s name)) ∙ line_parts []
 
   -- The tag reads back.
-  tag_reads : is_tag s.tag ≡ true → column_number (take tag_columns (line_bytes s name)) ≡ some s.tag
+  tag_reads : is_tag s.tag ≡ true → column_number (take tag_columns (line_bytes s name)) ≡ Some s.tag
   unfolding is_tag number_columns line_bytes tag_columns
   tag_reads t = let h = ltb-true s.tag _ t in simp append_assoc (column_at [] _ 0 tag_columns s.tag refl (omega arith) (omega arith))
 
   -- A channel's code reads back where its column stands between p and r.
   code_at : (h : Channel) (p r : List ℕ) → codes_fit s.colour ≡ true → line_bytes s name ≡ p ++ (code h ++ r)
-      → length p ≡ code_start h → code_column (line_bytes s name) (code_start h) ≡ some (code_in h s.colour)
+      → length p ≡ code_start h → code_column (line_bytes s name) (code_start h) ≡ Some (code_in h s.colour)
   unfolding code_column code_columns
   code_at h p r f e a = rw e (column_at p r (code_start h) code_columns _ a (omega arith) (omega (arith, (fit_codes s.colour).0 f h)))
 
   -- So each does.
-  code_reads : codes_fit s.colour ≡ true → (h : Channel) → code_column (line_bytes s name) (code_start h) ≡ some (code_in h s.colour)
+  code_reads : codes_fit s.colour ≡ true → (h : Channel) → code_column (line_bytes s name) (code_start h) ≡ Some (code_in h s.colour)
   unfolding number_columns code_in code_start red_start green_start blue_start
   code_reads f Red = code_at Red tag (code Green ++ code Blue ++ after []) f (line_is ∙ simp append_assoc) (simp column_length)
   code_reads f Green = code_at Green (tag ++ code Red) (code Blue ++ after []) f (line_is ∙ simp append_assoc) (simp (length-append, column_length))
@@ -68,7 +68,7 @@ module _ (s : Sample) (name : List ℕ) where
 
   -- The numbers read back, beside a name of n bytes.
   numbers_read : (n : ℕ) → is_tag s.tag ≡ true → codes_fit s.colour ≡ true
-      → line_numbers (line_bytes s name) n ≡ some (record { sample = s; name_length = n })
+      → line_numbers (line_bytes s name) n ≡ Some (record { sample = s; name_length = n })
   unfolding line_numbers code_start code_in line_from
   numbers_read n t f =
       let good : (is_tag s.tag && codes_fit s.colour) ≡ true = (and-eq-true_iff _ _).1 (t, f) in
@@ -104,7 +104,7 @@ module _ (s : Sample) (name : List ℕ) where
 
   -- A line written from a sample and a good name says that sample and the name's length.
   pub line_reads : is_tag s.tag ≡ true → codes_fit s.colour ≡ true → name_good name ≡ true
-      → line_of (line_bytes s name) ≡ some (record { sample = s; name_length = length name })
+      → line_of (line_bytes s name) ≡ Some (record { sample = s; name_length = length name })
   unfolding line_of
   line_reads t f g =
       rw (forms (line_bytes s name) (formed g), line_of) (rw (field_is g, filled_name name (name_good_lem name g)) (numbers_read (length name) t f))
@@ -127,7 +127,7 @@ module _ (s : Sample) (name lent : List ℕ) where
 
   -- The first 62 of the bytes lent say the sample and the name's length.
   pub written_reads : is_tag s.tag ≡ true → (write_line s name lent).number ≡ 0
-      → line_of (take line_length (write_line s name lent).left) ≡ some (record { sample = s; name_length = length name })
+      → line_of (take line_length (write_line s name lent).left) ≡ Some (record { sample = s; name_length = length name })
   unfolding write_line
   written_reads t z =
       let a = accepted s name lent z in

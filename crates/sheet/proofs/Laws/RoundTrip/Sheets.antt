@@ -2,7 +2,7 @@
 use Prim.Native.Nat.{ℕ, suc, ◌+◌, ◌*◌, ◌^◌, ◌<◌}
 use mathlib.Core.Bool.{Bool, true, false, ◌&&◌, and-eq-true_iff}
 use mathlib.Core.List.{List, [], ◌∷◌, ◌++◌, append_assoc}
-use mathlib.Core.Option.{some}
+use Rattle.std.specs.Prelude.{Some}
 use mathlib.Core.Path.{◌≡◌, refl, ◌∙◌}
 use native.Mathlib.Omega.{arith}
 use lib.Dec.{eqb}
@@ -28,7 +28,7 @@ line e = line_bytes e.sample e.name
 
 record Stands (e : Entry) : Type 0 where
   fills : length (line e) ≡ line_length
-  reads : line_of (line e) ≡ some (line_said e)
+  reads : line_of (line e) ≡ Some (line_said e)
 
 stands : (e : Entry) → entry_good e ≡ true → Stands e
 unfolding entry_good line_said
@@ -54,7 +54,7 @@ module _ (n : ℕ) (t : List ℕ) where
   unfolding title same_bytes
   title_stands = rw header_is
 
-  count_stands : n < 10 ^ count_columns → column_number (take count_columns (drop (length title) (header_bytes n ++ t))) ≡ some n
+  count_stands : n < 10 ^ count_columns → column_number (take count_columns (drop (length title) (header_bytes n ++ t))) ≡ Some n
   unfolding count_columns
   count_stands h = rw header_is (column_at title (newline ∷ t) (length title) count_columns n refl (omega arith) h)
 
@@ -87,7 +87,7 @@ sheet_length es g =
     ∙ omega (arith, header_length_lem (length es), lines_length es g, line_length_is)
 
 -- The count reads back.
-count_reads : (es : List Entry) → entries_good es ≡ true → length es < 10 ^ count_columns → line_count (sheet_bytes es) ≡ some (length es)
+count_reads : (es : List Entry) → entries_good es ≡ true → length es < 10 ^ count_columns → line_count (sheet_bytes es) ≡ Some (length es)
 unfolding sheet_bytes
 count_reads es g few =
     let n : ℕ = length es in
@@ -128,7 +128,7 @@ said_good (e ∷ rest) = said_good rest
 
 -- A sheet written from good entries reads back: the count is their number, and each line says its entry.
 pub sheet_reads : (es : List Entry) → entries_good es ≡ true → length es < 10 ^ count_columns
-    → (line_count (sheet_bytes es) ≡ some (length es)) × (lines_of (sheet_bytes es) ≡ lines_said es)
+    → (line_count (sheet_bytes es) ≡ Some (length es)) × (lines_of (sheet_bytes es) ≡ lines_said es)
 unfolding sheet_bytes lines_of lines_by
 sheet_reads es g few =
     let count = count_reads es g few in
@@ -139,5 +139,5 @@ pub sheet_name : (es : List Entry) (tag : ℕ) → entries_good es ≡ true → 
     → bytes_of (name_part (sheet_bytes es) tag) (sheet_bytes es) ≡ name_for tag es
 unfolding sheet_bytes lines_by where_good
 sheet_name es tag g few =
-    rw (looked_up_lem (sheet_bytes es) tag (some (length es)) (count_reads es g few))
+    rw (looked_up_lem (sheet_bytes es) tag (Some (length es)) (count_reads es g few))
     (rw (lines_read (header_bytes (length es)) 0 es (header_length_lem (length es)) g, said_good es) (name_found tag (header_bytes (length es)) 0 es (header_length_lem (length es)) g))

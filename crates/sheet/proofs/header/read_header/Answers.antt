@@ -1,5 +1,5 @@
 -- `header::read_header`: each return by the tests that led there, by laws of Laws.Reading.Header.
-use mathlib.Core.Option.{some}
+use Rattle.std.specs.Prelude.{Some}
 use mathlib.Core.Path.{sym, ap, ◌∙◌}
 use native.Mathlib.Omega.{arith}
 use lib.Seq.{length-take-le}
@@ -54,6 +54,6 @@ returns c =
     (record {
       titled = sym c.same.ensures ∙ c.if-not-same.false;
       ended = c.if-sheet-ne10.false;
-      count = (within_some _ _ _ (ap number_is (sym c.in-Is.is) ∙ c.read_number.ensures)).0 ∙ ap some c.if-count-lines.false;
+      count = (within_some _ _ _ (ap number_is (sym c.in-Is.is) ∙ c.read_number.ensures)).0 ∙ ap Some c.if-count-lines.false;
       whole = sym c.if-lines-sheet.false;
     })
