@@ -98,6 +98,14 @@ impl TryFrom<Colour> for Codes {
     }
 }
 
+// Whether a colour's words are codes: question 4.
+#[tactic(auto, unfolding(crate::specs::Panel::fit_if))]
+pub fn codes_fit(c: Colour) -> bool
+    ensures { result ≡ codes_fit c }
+{
+    Codes::try_from(c).is_ok()
+}
+
 // Codes as words.
 impl From<Codes> for Colour {
     ghost from_gives = { λ c r. r ≡ c };

@@ -8,7 +8,7 @@ ghost use Rattle.model.specs.Tables.{header_words};
 ghost use Rattle.words.specs.Rows.{sample_start, octant_start, sample_at, sample_field, octant_field, settings_in, count_in};
 ghost use Rattle.words.specs.Rows.{octant_limit, sample_budget, sample_in, with_sample, octant_row_by};
 
-use colour::{Colour, Sample, Settings};
+use colour::{Channels, Colour, Sample, Settings};
 
 // The words before the first row, and the words of a row.
 const SAMPLE_HEADER: usize = 2;
@@ -146,7 +146,7 @@ pub fn colour(samples: &[u32], i: usize) -> Colour
     ensures { result ≡ colour_by (λ h. sample_field current samples.now i (Code h)) }
 {
     let at = sample_start(i);
-    Colour {
+    Channels {
         red: samples[at + RED],
         green: samples[at + GREEN],
         blue: samples[at + BLUE],

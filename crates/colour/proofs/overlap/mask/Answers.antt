@@ -1,5 +1,4 @@
 -- The eight bits are the definition's mask written out; they sum to 255 at most.
-use borrow.Author.Rules.{rules}
 use Rattle.colour.specs.Colour.{sum_of}
 use Rattle.colour.specs.Octant.{bit_weight}
 use Rattle.colour.specs.Steps.{half_at, of_channel, child_sum, child_below}
