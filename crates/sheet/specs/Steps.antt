@@ -1,13 +1,6 @@
 -- What the functions under the calls promise. No call's own promise cites these.
 use Rattle.std.specs.Prelude.{ℕ, ◌+◌, true, false, List, ◌++◌, leb, length, take, drop, Option, None, Some}
-use Rattle.sheet.specs.declared.column.Number.{Number}
-use Rattle.sheet.specs.declared.column.Number.TheVariants as N
 use Rattle.sheet.specs.Line.{leading, name_field_good}
-
--- A number in a column.
-unfoldable pub number_is : Number → Option ℕ
-number_is (N.Is n) = Some n
-number_is N.Missing = None
 
 -- A number that is at most `most`; none where it is greater.
 unfoldable pub within : ℕ → Option ℕ → Option ℕ
@@ -22,9 +15,9 @@ greatest_tag = 4294967295
 abbrev pub greatest_code : ℕ
 greatest_code = 65535
 
--- The length of the name in its columns, 0 where these are not good.
-unfoldable pub name_length_in : List ℕ → ℕ
-name_length_in s = elim (name_field_good s) [ true ↦ length (leading s) | false ↦ 0 ]
+-- The length of the name in its columns; none where these are not good.
+unfoldable pub name_length_in : List ℕ → Option ℕ
+name_length_in s = elim (name_field_good s) [ true ↦ Some (length (leading s)) | false ↦ None ]
 
 -- A text with t written over it from place `at` on.
 unfoldable pub put_at : ℕ → List ℕ → List ℕ → List ℕ

@@ -2,11 +2,10 @@
 ghost use Rattle.std.specs.Prelude.{◌≡◌, suc, ◌≤◌, ◌<◌, ◌^◌, length};
 ghost use Rattle.sheet.specs.Answers.{header_answer, line_answer};
 ghost use Rattle.sheet.specs.Line.{read_line};
-ghost use Rattle.sheet.specs.Sheet.{line_start, line_part, read_header};
+ghost use Rattle.sheet.specs.Sheet.{line_start, line_part, line_count, read_header};
 
-use crate::column::{Number, read_number};
-use crate::line::{LINE_LENGTH, Reading, read_line};
-use crate::text::same;
+use crate::column::read_number;
+use crate::line::{LINE_LENGTH, Line, read_line};
 use colour::refusal::Refusal;
 
 const TITLE_LENGTH: usize = 8;
@@ -18,38 +17,33 @@ const COUNT_END: usize = TITLE_LENGTH + COUNT_COLUMNS;
 // Where line 0 starts.
 const HEADER_LENGTH: usize = COUNT_END + 1;
 
-// The number of lines that a good header says, or the refusal of question 11.
-#[derive(Clone, Copy)]
-pub enum Header {
-    Lines(usize),
-    Refused(Refusal),
-}
-
-// Reads a header. The sheet's length says how many lines there can be, and the count has to be that number: so no length is
-// worked out from a count, and nothing overflows.
-pub fn read_header(sheet: &[u8]) -> Header
-    ensures { header_answer result ≡ read_header sheet.now }
+// The number of lines that a good header says. The sheet's length says how many lines there can be, and the count has to be that
+// number: so no length is worked out from a count, and nothing overflows.
+fn line_count(sheet: &[u8]) -> Option<usize>
+    ensures { result ≡ line_count sheet.now }
 {
     if sheet.len() < HEADER_LENGTH {
-        return Header::Refused(Refusal::Header);
+        return None;
     }
-    if !same(&sheet[..TITLE_LENGTH], b"SWATCHES") {
-        return Header::Refused(Refusal::Header);
-    }
-    if sheet[COUNT_END] != b'\n' {
-        return Header::Refused(Refusal::Header);
+    if !sheet.starts_with(b"SWATCHES") || sheet[COUNT_END] != b'\n' {
+        return None;
     }
     let lines = (sheet.len() - HEADER_LENGTH) / LINE_LENGTH;
     if HEADER_LENGTH + LINE_LENGTH * lines != sheet.len() {
-        return Header::Refused(Refusal::Header);
+        return None;
     }
-    let Number::Is(count) = read_number(&sheet[TITLE_LENGTH..COUNT_END], lines as u64) else {
-        return Header::Refused(Refusal::Header);
-    };
+    let count = read_number(&sheet[TITLE_LENGTH..COUNT_END], lines as u64)?;
     if count != lines as u64 {
-        return Header::Refused(Refusal::Header);
+        return None;
     }
-    Header::Lines(lines)
+    Some(lines)
+}
+
+// Reads a header: the number of lines, or the refusal of question 11.
+pub fn read_header(sheet: &[u8]) -> Result<usize, Refusal>
+    ensures { header_answer result ≡ read_header sheet.now }
+{
+    line_count(sheet).ok_or(Refusal::Header)
 }
 
 // Where line k starts.
@@ -61,7 +55,7 @@ pub fn line_start(k: usize) -> usize
 }
 
 // What line k of a sheet says. The line is handed on as a part of the sheet that starts in its middle.
-pub fn line_at(sheet: &[u8], k: usize) -> Reading
+pub fn line_at(sheet: &[u8], k: usize) -> Result<Line, Refusal>
     requires { line_start (suc k) ≤ length sheet.now }
     ensures { line_answer result ≡ read_line (line_part sheet.now k) }
 {

@@ -1,10 +1,10 @@
 // A line: its columns, and what it says.
 ghost use Rattle.std.specs.Prelude.{◌≡◌, ◌+◌, ◌≤◌, length};
 ghost use Rattle.sheet.specs.Answers.{line_answer};
-ghost use Rattle.sheet.specs.Line.{code_columns, name_columns, line_length, code_column, line_numbers, line_asked, read_line};
-ghost use Rattle.sheet.specs.Steps.{number_is, within, name_length_in, greatest_code};
+ghost use Rattle.sheet.specs.Line.{code_columns, name_columns, line_length, code_column, line_numbers, line_of, read_line};
+ghost use Rattle.sheet.specs.Steps.{within, name_length_in, greatest_code};
 
-use crate::column::{Number, read_number};
+use crate::column::read_number;
 use crate::text::{blanks, name_bytes};
 use colour::refusal::Refusal;
 use colour::{Colour, Sample};
@@ -42,52 +42,37 @@ pub struct Line {
     pub name_length: usize,
 }
 
-// What a line reads as, or the refusal of question 12.
-#[derive(Clone, Copy)]
-pub enum Reading {
-    Good(Line),
-    Refused(Refusal),
-}
-
-// The length of the name in its columns, 0 where they are not a name and blanks after: a good name has a byte.
-fn name_length(field: &[u8]) -> usize
+// The length of the name in its columns, if they are a good name and blanks after.
+fn name_length(field: &[u8]) -> Option<usize>
     requires { length field.now ≤ name_columns }
     ensures { result ≡ name_length_in field.now }
 {
     let n = name_bytes(field);
     let rest = &field[n..];
-    if blanks(rest) < rest.len() {
-        return 0;
+    if n == 0 || blanks(rest) < rest.len() {
+        return None;
     }
-    n
+    Some(n)
 }
 
 // The code in the columns that start at `at`.
-fn code_at(line: &[u8], at: usize) -> Number
+fn code_at(line: &[u8], at: usize) -> Option<u64>
     requires { at + code_columns ≤ length line.now }
-    ensures { number_is result ≡ within greatest_code (code_column line.now at) }
+    ensures { result ≡ within greatest_code (code_column line.now at) }
 {
     read_number(&line[at..at + CODE_COLUMNS], GREATEST_CODE)
 }
 
 // What a line's numbers say, beside a name of the length given.
-fn numbers(line: &[u8], name_length: usize) -> Reading
+fn numbers(line: &[u8], name_length: usize) -> Option<Line>
     requires { length line.now ≡ line_length }
-    ensures { line_answer result ≡ line_asked (line_numbers line.now name_length) }
+    ensures { result ≡ line_numbers line.now name_length }
 {
-    let Number::Is(tag) = read_number(&line[..TAG_COLUMNS], GREATEST_TAG) else {
-        return Reading::Refused(Refusal::Line);
-    };
-    let Number::Is(red) = code_at(line, RED_START) else {
-        return Reading::Refused(Refusal::Line);
-    };
-    let Number::Is(green) = code_at(line, GREEN_START) else {
-        return Reading::Refused(Refusal::Line);
-    };
-    let Number::Is(blue) = code_at(line, BLUE_START) else {
-        return Reading::Refused(Refusal::Line);
-    };
-    Reading::Good(Line {
+    let tag = read_number(&line[..TAG_COLUMNS], GREATEST_TAG)?;
+    let red = code_at(line, RED_START)?;
+    let green = code_at(line, GREEN_START)?;
+    let blue = code_at(line, BLUE_START)?;
+    Some(Line {
         sample: Sample {
             tag: tag as u32,
             colour: Colour {
@@ -100,22 +85,23 @@ fn numbers(line: &[u8], name_length: usize) -> Reading
     })
 }
 
-// Reads a line.
-pub fn read_line(line: &[u8]) -> Reading
-    ensures { line_answer result ≡ read_line line.now }
+// What a line says, if it is good.
+fn line_of(line: &[u8]) -> Option<Line>
+    ensures { result ≡ line_of line.now }
 {
     if line.len() != LINE_LENGTH {
-        return Reading::Refused(Refusal::Line);
+        return None;
     }
-    if line[BLANK_AT] != b' ' {
-        return Reading::Refused(Refusal::Line);
+    if line[BLANK_AT] != b' ' || line[NEWLINE_AT] != b'\n' {
+        return None;
     }
-    if line[NEWLINE_AT] != b'\n' {
-        return Reading::Refused(Refusal::Line);
-    }
-    let n = name_length(&line[NAME_START..NEWLINE_AT]);
-    if n == 0 {
-        return Reading::Refused(Refusal::Line);
-    }
-    numbers(line, n)
+    let name_length = name_length(&line[NAME_START..NEWLINE_AT])?;
+    numbers(line, name_length)
+}
+
+// Reads a line: what it says, or the refusal of question 12.
+pub fn read_line(line: &[u8]) -> Result<Line, Refusal>
+    ensures { line_answer result ≡ read_line line.now }
+{
+    line_of(line).ok_or(Refusal::Line)
 }

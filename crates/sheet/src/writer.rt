@@ -16,20 +16,13 @@ use colour::Sample;
 use colour::panel::codes_fit;
 use colour::refusal::Refusal;
 
-// What became of a line to write: it stands where it was to be, or the refusal of question 4, 10 or 13.
-#[derive(Clone, Copy)]
-pub enum Written {
-    Line,
-    Refused(Refusal),
-}
-
 // The number of an answer.
-pub fn number_of(answer: Written) -> u32
+pub fn number_of(answer: Result<(), Refusal>) -> u32
     ensures { result ≡ written_number answer }
 {
     match answer {
-        Written::Line => 0,
-        Written::Refused(refusal) => colour::refusal::number_of(refusal),
+        Ok(()) => 0,
+        Err(refusal) => colour::refusal::number_of(refusal),
     }
 }
 
@@ -37,10 +30,7 @@ pub fn number_of(answer: Written) -> u32
 fn name_good(name: &[u8]) -> bool
     ensures { result ≡ name_good name.now }
 {
-    if name.len() < 1 {
-        return false;
-    }
-    if name.len() > NAME_COLUMNS {
+    if name.is_empty() || name.len() > NAME_COLUMNS {
         return false;
     }
     name_bytes(name) == name.len()
@@ -76,33 +66,31 @@ fn put_line(sample: Sample, name: &[u8], line: &mut [u8])
     line[NEWLINE_AT] = b'\n';
 }
 
-// The first of the writer's questions that has a no.
-fn first_no(codes: bool, name: bool, room: bool) -> Written
+// The first of the writer's questions that has a no: the refusal of question 4, 10 or 13.
+fn first_no(codes: bool, name: bool, room: bool) -> Result<(), Refusal>
     ensures { written_number result ≡ first_no (asks 4 codes ∷ asks 10 name ∷ asks 13 room ∷ []) }
 {
     if !codes {
-        return Written::Refused(Refusal::Code);
+        return Err(Refusal::Code);
     }
     if !name {
-        return Written::Refused(Refusal::Name);
+        return Err(Refusal::Name);
     }
     if !room {
-        return Written::Refused(Refusal::NoRoom);
+        return Err(Refusal::NoRoom);
     }
-    Written::Line
+    Ok(())
 }
 
 // Writes a line over the first 62 bytes lent, and leaves the rest; a refusal writes nothing: an exported call.
-pub fn write_line(sample: Sample, name: &[u8], line: &mut [u8]) -> Written
+pub fn write_line(sample: Sample, name: &[u8], line: &mut [u8]) -> Result<(), Refusal>
     ensures { written_answer result line.new ≡ write_line sample name.now line.old }
 {
-    let answer = first_no(
+    first_no(
         codes_fit(sample.colour),
         name_good(name),
         line.len() >= LINE_LENGTH,
-    );
-    if let Written::Line = answer {
-        put_line(sample, name, line);
-    }
-    answer
+    )?;
+    put_line(sample, name, line);
+    Ok(())
 }

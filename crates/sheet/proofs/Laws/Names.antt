@@ -38,7 +38,7 @@ each_named (x ∷ rest) e i h = go (name_byte x) refl i h (each_named rest)
     go true t (suc j) l ih =
         let same : suc (length (leading rest)) ≡ suc (length rest) = rw (t, leading) at e in
         ih (omega arith) j (omega arith)
-    go false t k l ih = let None : 0 ≡ suc (length rest) = rw (t, leading) at e in absurd (omega arith)
+    go false t k l ih = let none : 0 ≡ suc (length rest) = rw (t, leading) at e in absurd (omega arith)
 
 -- The test, one question after another.
 pub name_empty : (name : List ℕ) → length name < 1 → false ≡ name_good name
@@ -85,5 +85,5 @@ pub filled_good : (name : List ℕ) → name_good name ≡ true → name_field_g
 unfolding name_field_good filled trimmed
 filled_good name g =
     let fill : List ℕ = replicate (name_columns - length name) blank in
-    let None : trimmed fill ≡ [] = ap trimmed (sym (append-nil fill)) ∙ trimmed_blanks (name_columns - length name) [] in
-    rw (filled_name name (name_good_lem name g), drop-append_seam name fill, None, g)
+    let none : trimmed fill ≡ [] = ap trimmed (sym (append-nil fill)) ∙ trimmed_blanks (name_columns - length name) [] in
+    rw (filled_name name (name_good_lem name g), drop-append_seam name fill, none, g)

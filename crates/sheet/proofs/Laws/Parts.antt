@@ -5,7 +5,7 @@ use mathlib.Core.Path.{◌≡◌, sym, ap, ◌∙◌}
 use native.Mathlib.Numerals.{add-one}
 use native.Mathlib.Omega.{arith}
 use borrow.Rule.Slice.PartMut.{put_mid}
-use lib.ListN.{length, take, drop, get_or, set, replicate, length-drop, drop_of_length-le, take-append-drop}
+use lib.ListN.{length, take, drop, get_or, set, replicate, length-append, length-drop, drop_of_length-le, take-append-drop}
 use lib.Seq.{take_all, take-suc, take_at, drop_at, drop-drop, set_at, set_split, length-take-le}
 use Rattle.sheet.specs.Steps.{put_at}
 use Rattle.sheet.proofs.Laws.Text.{next_byte}
@@ -39,14 +39,16 @@ copy_more s d i hs hd =
     rw (next_byte d i hd, set_at (take i s) (get_or d i 0) (drop (i + 1) d) (get_or s i 0) i (length-take-le i s (omega arith)), add-one i, take-suc s i 0 hs, append_assoc)
 
 -- A text that is copied whole, and the blanks after it that were lent and came back.
-pub left_whole : (text place₀ place blanks : List ℕ) (i v : ℕ) → length place ≡ length place₀ → place ≡ take i text ++ drop i place₀ → length text ≡ i
-    → blanks ≡ replicate (length (take (length place - i) (drop i place))) v
-    → put_mid i (length place - i) place blanks ≡ text ++ replicate (length place₀ - length text) v
-left_whole text place₀ place blanks i v whole so_far end e =
-    let head : take i place ≡ text = ap (take i) (so_far ∙ ap (λ (t : List ℕ). t ++ drop i place₀) (take_all i text (omega arith))) ∙ take_at text (drop i place₀) i end in
-    let size : length (take (length place - i) (drop i place)) ≡ length place₀ - length text =
-    ap length (part_tail place i) ∙ omega (arith, length-drop i place) in
-    put_tail i place blanks ∙ rw (head, e, size)
+pub left_whole : (text place head rest : List ℕ) (v : ℕ) → length text ≤ length place → head ≡ text
+    → rest ≡ replicate (length (take (length (head ++ drop (length text) place) - length text) (drop (length text) (head ++ drop (length text) place)))) v
+    → put_mid (length text) (length (head ++ drop (length text) place) - length text) (head ++ drop (length text) place) rest
+    ≡ text ++ replicate (length place - length text) v
+left_whole text place head rest v fits same e =
+    let whole : List ℕ = head ++ drop (length text) place in
+    let size : length (take (length whole - length text) (drop (length text) whole)) ≡ length place - length text =
+    ap length (part_tail whole (length text))
+    ∙ omega (arith, ap length same, length-drop (length text) whole, length-append head (drop (length text) place), length-drop (length text) place) in
+    put_tail (length text) whole rest ∙ rw (take_at head (drop (length text) place) (length text) (ap length same), e, size, same)
 
 -- A text whose first places are written as p, and the next ones are written: by a part that was lent, by a call, by a store.
 module _ (p d : List ℕ) (a : ℕ) (end : length p ≡ a) where

@@ -1,14 +1,19 @@
 -- Texts gone through byte by byte: the blanks before, the name bytes first, two texts compared (document 01, "Sheets").
 use Prim.Native.Nat.{ℕ, zero, suc, ◌+◌, ◌-◌, ◌≤◌, ◌<◌}
-use mathlib.Core.Bool.{Bool, true, false, ◌&&◌, and-false, and-eq-true_iff}
+use mathlib.Core.Bool.{Bool, true, false, and-false, and-eq-true_iff}
 use mathlib.Core.List.{List, [], ◌∷◌, ◌++◌, append-nil}
 use mathlib.Core.Path.{◌≡◌, refl, sym, ap, ◌∙◌}
 use native.Mathlib.Numerals.{add-one}
 use native.Mathlib.Omega.{arith}
-use borrow.Author.Tests.{eq-eqb, ne_eqb, eqb-true, eqb-false, le-leb, lt-leb, leb-true}
-use lib.Dec.{eqb, leb}
-use lib.ListN.{length, drop, get_or, replicate, length-append, length-drop, length-replicate, drop_of_length-le}
+use borrow.Author.Tests.{eq-eqb, ne_eqb, eqb-true, eqb-false, le-leb, lt-leb, leb-true, ltb-false}
+use lib.Dec.{eqb, leb, ltb}
+use lib.ListN.{length, drop, get_or, replicate, length-append, length-replicate}
+use lib.Pointwise.{pointwise}
 use lib.Seq.{drop-cons, drop-length, drop_at}
+use Rattle.std.specs.Prelude.{None, Some, cond, not, position}
+use Rattle.std.specs.List.{position_or_len}
+use Rattle.std.specs.Option.{unwrap_or}
+use Rattle.std.proofs.lemmas.List.Sums.{prefix_len-le-length}
 use Rattle.sheet.specs.Column.{between, blank, trimmed}
 use Rattle.sheet.specs.Line.{name_byte, leading}
 use Rattle.sheet.specs.Sheet.{same_bytes}
@@ -48,21 +53,6 @@ pub stay : (x : ℕ) (rest : List ℕ) → (x ≡ blank → ⊥) → trimmed (x 
 unfolding trimmed
 stay x rest e = rw (ne_eqb x blank e, trimmed)
 
-module _ (s : List ℕ) (i : ℕ) (more : i < length s) where
-  pub trimmed_blank : get_or s i 0 ≡ blank → trimmed (drop i s) ≡ trimmed (drop (i + 1) s)
-  trimmed_blank e = ap trimmed (next_byte s i more) ∙ skip _ _ e
-
-  pub trimmed_stops : (get_or s i 0 ≡ blank → ⊥) → trimmed (drop i s) ≡ drop i s
-  trimmed_stops e = ap trimmed (next_byte s i more) ∙ stay _ _ e ∙ sym (next_byte s i more)
-
-pub trimmed_end : (s : List ℕ) (i : ℕ) → length s ≤ i → trimmed (drop i s) ≡ drop i s
-unfolding trimmed
-trimmed_end s i h = rw (drop_of_length-le s h)
-
--- So many blanks stand first.
-pub blanks_first : (s : List ℕ) (i : ℕ) → i ≤ length s → trimmed s ≡ drop i s → i ≡ length s - length (trimmed s)
-blanks_first s i h e = omega (arith, ap length e, length-drop i s)
-
 pub trimmed_most : (s : List ℕ) → length (trimmed s) ≤ length s
 unfolding trimmed
 trimmed_most [] = omega arith
@@ -71,6 +61,28 @@ trimmed_most (x ∷ rest) = go (eqb x blank) refl (trimmed_most rest)
     go : (q : Bool) → eqb x blank ≡ q → length (trimmed rest) ≤ length rest → length (trimmed (x ∷ rest)) ≤ length (x ∷ rest)
     go true e h = rw (e, trimmed) (omega arith)
     go false e h = rw (e, trimmed) (omega arith)
+
+-- Where the first byte stands that passes a test, or the end of the text.
+place_found : (test : ℕ → Bool) (s : List ℕ) → unwrap_or (position test s) (length s) ≡ position_or_len test s
+place_found test s = go (ltb (position_or_len test s) (length s)) refl
+  where
+    go : (q : Bool) → ltb (position_or_len test s) (length s) ≡ q → unwrap_or (cond q (Some (position_or_len test s)) None) (length s) ≡ position_or_len test s
+    go true e = refl
+    go false e = omega (arith, ltb-false (position_or_len test s) (length s) e, prefix_len-le-length (λ x. not (test x)) s)
+
+-- Before it stand the blanks.
+pub blanks_first : (s : List ℕ) → unwrap_or (position (λ x. not (eqb x blank)) s) (length s) ≡ length s - length (trimmed s)
+unfolding trimmed
+blanks_first s = place_found (λ x. not (eqb x blank)) s ∙ count s
+  where
+    count : (s : List ℕ) → position_or_len (λ x. not (eqb x blank)) s ≡ length s - length (trimmed s)
+    count [] = refl
+    count (x ∷ rest) = go (eqb x blank) refl (count rest)
+      where
+        go : (q : Bool) → eqb x blank ≡ q → position_or_len (λ y. not (eqb y blank)) rest ≡ length rest - length (trimmed rest)
+            → cond (not (not q)) (1 + position_or_len (λ y. not (eqb y blank)) rest) 0 ≡ suc (length rest) - length (trimmed (x ∷ rest))
+        go true e h = rw (e, trimmed) (omega (arith, h, trimmed_most rest))
+        go false e h = rw (e, trimmed) (omega arith)
 
 -- A text is the blanks before it and what stands after them.
 pub blanks_before : (s : List ℕ) → s ≡ replicate (length s - length (trimmed s)) blank ++ trimmed s
@@ -99,25 +111,19 @@ unfolding trimmed blank
 trimmed_blanks zero s = refl
 trimmed_blanks (suc k) s = trimmed_blanks k s
 
--- A name byte counts; at any other the name ends.
-named : (x : ℕ) (rest : List ℕ) → name_byte x ≡ true → length (leading (x ∷ rest)) ≡ 1 + length (leading rest)
+-- Before the first other byte stand the name bytes.
+pub names_first : (s : List ℕ) → unwrap_or (position (λ x. not (name_byte x)) s) (length s) ≡ length (leading s)
 unfolding leading
-named x rest e = rw (e, leading) (omega arith)
-
-unnamed : (x : ℕ) (rest : List ℕ) → name_byte x ≡ false → length (leading (x ∷ rest)) ≡ 0
-unfolding leading
-unnamed x rest e = rw (e, leading)
-
-module _ (s : List ℕ) (i : ℕ) (more : i < length s) where
-  pub leading_more : name_byte (get_or s i 0) ≡ true → length (leading (drop i s)) ≡ 1 + length (leading (drop (i + 1) s))
-  leading_more e = ap (λ (t : List ℕ). length (leading t)) (next_byte s i more) ∙ named _ _ e
-
-  pub leading_stops : name_byte (get_or s i 0) ≡ false → length (leading (drop i s)) ≡ 0
-  leading_stops e = ap (λ (t : List ℕ). length (leading t)) (next_byte s i more) ∙ unnamed _ _ e
-
-pub leading_end : (s : List ℕ) (i : ℕ) → length s ≤ i → length (leading (drop i s)) ≡ 0
-unfolding leading
-leading_end s i h = rw (drop_of_length-le s h)
+names_first s = place_found (λ x. not (name_byte x)) s ∙ count s
+  where
+    count : (s : List ℕ) → position_or_len (λ x. not (name_byte x)) s ≡ length (leading s)
+    count [] = refl
+    count (x ∷ rest) = go (name_byte x) refl (count rest)
+      where
+        go : (q : Bool) → name_byte x ≡ q → position_or_len (λ y. not (name_byte y)) rest ≡ length (leading rest)
+            → cond (not (not q)) (1 + position_or_len (λ y. not (name_byte y)) rest) 0 ≡ length (leading (x ∷ rest))
+        go true e h = rw (e, leading) (omega (arith, h))
+        go false e h = rw (e, leading)
 
 -- A text is the name bytes that stand first and what follows them.
 pub leading_first : (s : List ℕ) → s ≡ leading s ++ drop (length (leading s)) s
@@ -143,28 +149,20 @@ leading_twice (x ∷ rest) = go (name_byte x) refl (leading_twice rest)
     go true e h = rw (e, e, leading, h)
     go false e h = rw (e, leading)
 
--- Texts of two lengths are not the same. Of two texts, one byte after another is compared.
-pub lengths_differ : (a b : List ℕ) → (length a ≡ length b → ⊥) → same_bytes a b ≡ false
+-- Whether two texts are the same is whether they are the same byte by byte.
+either_way : (x y : ℕ) → eqb x y ≡ eqb y x
+either_way x y = go (eqb x y) refl
+  where
+    go : (q : Bool) → eqb x y ≡ q → eqb x y ≡ eqb y x
+    go true e = e ∙ sym (eq-eqb y x (sym (eqb-true x y e)))
+    go false e = e ∙ sym (ne_eqb y x (λ z. eqb-false x y e (sym z)))
+
+pub same_pointwise : (a b : List ℕ) → pointwise eqb a b ≡ same_bytes b a
 unfolding same_bytes
-lengths_differ [] [] h = absurd (h refl)
-lengths_differ [] (y ∷ ys) h = refl
-lengths_differ (x ∷ xs) [] h = refl
-lengths_differ (x ∷ xs) (y ∷ ys) h = ap (λ (t : Bool). eqb x y && t) (lengths_differ xs ys (λ e. h (ap suc e))) ∙ and-false (eqb x y)
-
-module _ (a b : List ℕ) (i : ℕ) (more : i < length a) (alike : length a ≡ length b) where
-  both : same_bytes (drop i a) (drop i b) ≡ (eqb (get_or a i 0) (get_or b i 0) && same_bytes (drop (i + 1) a) (drop (i + 1) b))
-  unfolding same_bytes
-  both = rw (next_byte a i more, next_byte b i (omega arith))
-
-  pub same_more : get_or a i 0 ≡ get_or b i 0 → same_bytes (drop i a) (drop i b) ≡ same_bytes (drop (i + 1) a) (drop (i + 1) b)
-  same_more e = both ∙ rw (eq-eqb (get_or a i 0) (get_or b i 0) e)
-
-  pub same_stops : (get_or a i 0 ≡ get_or b i 0 → ⊥) → same_bytes (drop i a) (drop i b) ≡ false
-  same_stops e = both ∙ rw (ne_eqb (get_or a i 0) (get_or b i 0) e)
-
-pub same_end : (a b : List ℕ) (i : ℕ) → length a ≡ length b → length a ≤ i → same_bytes (drop i a) (drop i b) ≡ true
-unfolding same_bytes
-same_end a b i alike h = rw (drop_of_length-le a h, drop_of_length-le b {i = i} (omega arith))
+same_pointwise [] [] = refl
+same_pointwise [] (y ∷ ys) = refl
+same_pointwise (x ∷ xs) [] = refl
+same_pointwise (x ∷ xs) (y ∷ ys) = rw (same_pointwise xs ys, either_way x y)
 
 -- Two texts that compare as the same are the same.
 pub same_bytes_lem : (a b : List ℕ) → same_bytes a b ≡ true → a ≡ b

@@ -1,16 +1,16 @@
 -- The header of a sheet, and where its lines stand (document 01, "Sheets").
 use Prim.Native.Nat.{ℕ, suc, ◌+◌, ◌-◌, ◌≤◌, ◌<◌}
 use mathlib.Core.Bool.{Bool, true, false, and-eq-true_iff}
-use mathlib.Core.List.{List}
-use Rattle.std.specs.Prelude.{Option, None, Some}
-use mathlib.Core.Path.{◌≡◌, refl, ap, ◌∙◌}
+use mathlib.Core.List.{List, [], ◌∷◌}
+use Rattle.std.specs.Prelude.{Option, None, Some, is_some}
+use Rattle.std.specs.Option.{ok_or}
+use mathlib.Core.Path.{◌≡◌, refl, sym, ap, ◌∙◌}
 use native.Mathlib.Omega.{arith}
 use borrow.Author.Tests.{eqb-true, eq-eqb}
 use lib.Dec.{eqb}
 use lib.ListN.{length, take, drop, get_or}
 use Rattle.colour.specs.declared.refusal.Refusal.TheVariants as Q
-use Rattle.colour.specs.Question.{first_no}
-use Rattle.sheet.specs.declared.header.Header.TheVariants as H
+use Rattle.colour.specs.Question.{asks, first_no}
 use Rattle.sheet.specs.Answers.{header_answer}
 use Rattle.sheet.specs.Column.{newline, column_number}
 use Rattle.sheet.specs.Line.{line_length}
@@ -56,17 +56,21 @@ pub counted : (s : List ℕ) (n : ℕ) → Formed s n → line_count s ≡ Some 
 unfolding line_count header_formed count_if
 counted s n f = rw (f.titled, eq-eqb _ _ f.ended, f.count, count_if, eq-eqb (length s) (line_start n) f.whole)
 
--- The answer of a header that is so formed, and of one that is not.
-pub good : (s : List ℕ) (n : ℕ) → Formed s n → header_answer (H.Lines n) ≡ read_header s
+-- The answer of a header that was read: the number of lines, or the refusal.
+pub header_read : (s : List ℕ) → header_answer (ok_or (line_count s) Q.Header) ≡ read_header s
 unfolding header_answer read_header first_no
-good s n f = rw (counted s n f)
+header_read s = go (line_count s)
+  where
+    go : (o : Option ℕ) → header_answer (ok_or o Q.Header) ≡ record { number = first_no (asks 11 (is_some o) ∷ []); lines = o }
+    go None = refl
+    go (Some n) = refl
 
-pub not_good : (s : List ℕ) → ((n : ℕ) → Formed s n → ⊥) → header_answer (H.Refused Q.Header) ≡ read_header s
-unfolding header_answer read_header first_no
+-- A header that is not so formed counts nothing.
+pub not_good : (s : List ℕ) → ((n : ℕ) → Formed s n → ⊥) → None ≡ line_count s
 not_good s h = go (line_count s) refl
   where
-    go : (o : Option ℕ) → line_count s ≡ o → header_answer (H.Refused Q.Header) ≡ read_header s
-    go None e = rw e
+    go : (o : Option ℕ) → line_count s ≡ o → None ≡ line_count s
+    go None e = sym e
     go (Some n) e = absurd (h n (formed s n e))
 
 -- A sheet without the title has no good header.

@@ -3,10 +3,11 @@ use Prim.Native.Nat.{ℕ, ◌-◌, ◌≤◌, ◌<◌, ◌^◌}
 use mathlib.Core.Bool.{Bool, true, false, ◌&&◌, and-false, and-true, and-eq-true_iff}
 use mathlib.Core.List.{List}
 use Rattle.std.specs.Prelude.{Option, None, Some}
+use Rattle.std.specs.Option.{ok_or}
 use Rattle.std.proofs.lemmas.Option.{none-some, same_Some}
 use mathlib.Core.Path.{◌≡◌, refl, sym, ap, ◌∙◌}
 use native.Mathlib.Omega.{arith}
-use borrow.Author.Tests.{le-leb, eq-eqb, ne_eqb, leb-false, ltb-true, lt-ltb, eqb-true}
+use borrow.Author.Tests.{le-leb, eq-eqb, ne_eqb, ltb-true, lt-ltb, eqb-true}
 use lib.Dec.{leb, eqb}
 use lib.ListN.{length, drop, get_or}
 use Rattle.colour.specs.declared.Sample.{Sample}
@@ -15,7 +16,6 @@ use Rattle.colour.specs.Question.{first_no}
 use Rattle.colour.specs.Colour.{Channel, Red, Green, Blue, code_in, is_tag, codes_fit}
 use Rattle.colour.proofs.Laws.Channels.{fit_codes}
 use Rattle.sheet.specs.declared.line.Line.{Line}
-use Rattle.sheet.specs.declared.line.Reading.TheVariants as R
 use Rattle.sheet.specs.Answers.{line_answer}
 use Rattle.sheet.specs.Column.{blank, newline, trimmed}
 use Rattle.sheet.specs.Line.{blank_at, newline_at, line_length}
@@ -23,17 +23,13 @@ use Rattle.sheet.specs.Line.{leading, name_good, name_field_good, line_from, nam
 use Rattle.sheet.specs.Steps.{within, name_length_in, greatest_tag, greatest_code}
 use Rattle.sheet.proofs.Laws.Reading.Digits.{within_yes, within_some}
 use Rattle.sheet.proofs.Laws.Text.{leading_twice, leading_most, trimmed_most}
-use Rattle.sheet.proofs.Laws.Names.{name_good_lem}
 use Rattle.sheet.proofs.Laws.Ranges.{GoodRange, Ranged, from_holds}
 
--- The answer of a line that is not good, and of a good one.
-pub line_refused : (l : Option Line) → None ≡ l → line_answer (R.Refused Q.Line) ≡ line_asked l
+-- The answer of a line that was read: what it says, or the refusal.
+pub line_read : (l : Option Line) → line_answer (ok_or l Q.Line) ≡ line_asked l
 unfolding line_answer line_asked first_no
-line_refused l e = rw (sym e)
-
-pub line_good : (k : Line) (l : Option Line) → Some k ≡ l → line_answer (R.Good k) ≡ line_asked l
-unfolding line_answer line_asked first_no
-line_good k l e = rw (sym e)
+line_read None = refl
+line_read (Some l) = refl
 
 -- A line that says something has all its numbers: the tag, a code in each channel, and the name's length.
 pub record Numbers (t : Option ℕ) (f : Channel → Option ℕ) (n : ℕ) (l : Line) : Type 0 where
@@ -106,22 +102,21 @@ all_numbers t r g b s n et ec =
     rw (tag.0, (code Red).0, (code Green).0, (code Blue).0) (rw (good, line_from))
 
 -- A name's columns: the bytes that stand first, and blanks after.
-good : (s : List ℕ) → name_field_good s ≡ true → length (leading s) ≡ name_length_in s
+good : (s : List ℕ) → name_field_good s ≡ true → Some (length (leading s)) ≡ name_length_in s
 unfolding name_length_in
 good s e = rw (e, name_length_in)
 
-bad : (s : List ℕ) → name_field_good s ≡ false → 0 ≡ name_length_in s
+bad : (s : List ℕ) → name_field_good s ≡ false → None ≡ name_length_in s
 unfolding name_length_in
 bad s e = rw (e, name_length_in)
 
--- Good columns hold a good name, so of at least one byte.
-some_bytes : (s : List ℕ) → name_field_good s ≡ true → 1 ≤ length (leading s)
-unfolding name_field_good
-some_bytes s e = (name_good_lem (leading s) ((and-eq-true_iff (name_good (leading s)) _).0 e).0).named
-
--- Columns that start with n name bytes: some other byte among the rest, or n bytes of name.
+-- Columns that start with n name bytes: no name byte, some other byte among the rest, or n bytes of name.
 module _ (s : List ℕ) (n : ℕ) (named : n ≡ length (leading s)) where
-  pub name_followed : (rest : List ℕ) → rest ≡ drop n s → (k : ℕ) → k ≡ length rest - length (trimmed rest) → k < length rest → 0 ≡ name_length_in s
+  pub name_none : n ≡ 0 → None ≡ name_length_in s
+  unfolding name_field_good name_good
+  name_none z = bad s (rw (← named, z))
+
+  pub name_followed : (rest : List ℕ) → rest ≡ drop n s → (k : ℕ) → k ≡ length rest - length (trimmed rest) → k < length rest → None ≡ name_length_in s
   unfolding name_field_good
   name_followed rest r k blanks h =
       let some_byte : eqb (length (trimmed rest)) 0 ≡ false = ne_eqb (length (trimmed rest)) 0 (λ z. omega arith) in
@@ -135,18 +130,11 @@ module _ (s : List ℕ) (n : ℕ) (named : n ≡ length (leading s)) where
       (and-true (leb 1 n && true && true) ∙ and-true (leb 1 n && true) ∙ and-true (leb 1 n))
 
   pub name_alone : (rest : List ℕ) → rest ≡ drop n s → (k : ℕ) → k ≡ length rest - length (trimmed rest) → length rest ≤ k
-      → length s ≤ name_columns → n ≡ name_length_in s
-  name_alone rest r k blanks h narrow = go (leb 1 n) refl
-    where
-      fits : n ≤ name_columns
-      fits = omega (arith, leading_most s)
-
-      all_blank : length (trimmed rest) ≡ 0
-      all_blank = omega (arith, trimmed_most rest)
-
-      go : (q : Bool) → leb 1 n ≡ q → n ≡ name_length_in s
-      go true e = named ∙ good s (tests rest r all_blank fits ∙ e)
-      go false e = omega (arith, bad s (tests rest r all_blank fits ∙ e), leb-false 1 n e)
+      → length s ≤ name_columns → (n ≡ 0 → ⊥) → Some n ≡ name_length_in s
+  name_alone rest r k blanks h narrow some =
+      let fits : n ≤ name_columns = omega (arith, leading_most s) in
+      let all_blank : length (trimmed rest) ≡ 0 = omega (arith, trimmed_most rest) in
+      ap Some named ∙ good s (tests rest r all_blank fits ∙ le-leb 1 n (omega arith))
 
 -- What a good line has besides its numbers.
 pub record Formed (s : List ℕ) : Type 0 where
@@ -189,16 +177,16 @@ module _ (s : List ℕ) where
   pub no_newline : (get_or s newline_at 0 ≡ newline → ⊥) → None ≡ line_of s
   no_newline h = not_formed (λ f. h f.ended)
 
-  pub no_name : 0 ≡ name_length_in (name_field s) → None ≡ line_of s
-  no_name h = not_formed (λ f. omega (arith, good (name_field s) f.named, some_bytes (name_field s) f.named))
+  pub no_name : None ≡ name_length_in (name_field s) → None ≡ line_of s
+  no_name h = not_formed (λ f. none-some _ (h ∙ sym (good (name_field s) f.named)))
 
-  pub has_name : (n : ℕ) → n ≡ name_length_in (name_field s) → (n ≡ 0 → ⊥) → length s ≡ line_length → get_or s blank_at 0 ≡ blank → get_or s newline_at 0 ≡ newline
+  pub has_name : (n : ℕ) → Some n ≡ name_length_in (name_field s) → length s ≡ line_length → get_or s blank_at 0 ≡ blank → get_or s newline_at 0 ≡ newline
       → line_numbers s n ≡ line_of s
   unfolding line_of
-  has_name n e some-name l b k = go (name_field_good (name_field s)) refl
+  has_name n e l b k = go (name_field_good (name_field s)) refl
     where
       go : (q : Bool) → name_field_good (name_field s) ≡ q → line_numbers s n ≡ line_of s
       go true g =
           rw (forms s (record { long = l; parted = b; named = g; ended = k }), line_of)
-          (ap (line_numbers s) (e ∙ sym (good (name_field s) g)))
-      go false g = absurd (some-name (e ∙ sym (bad (name_field s) g)))
+          (ap (line_numbers s) (same_Some _ _ (e ∙ sym (good (name_field s) g))))
+      go false g = absurd (none-some n (bad (name_field s) g ∙ sym e))

@@ -2,19 +2,20 @@
 use Prim.Native.Nat.{ℕ, zero, suc, ◌+◌, ◌-◌, ◌≤◌, ◌<◌}
 use mathlib.Core.Bool.{Bool, true, false}
 use mathlib.Core.List.{List, ◌∷◌}
-use Rattle.std.specs.Prelude.{Option, None, Some}
+use Rattle.std.specs.Prelude.{Option, None, Some, Result}
+use Rattle.std.specs.Option.{unwrap_or, is_some}
+use Rattle.std.specs.Result.{result_ok}
+use Rattle.colour.specs.declared.refusal.Refusal.{Refusal}
 use mathlib.Core.Path.{◌≡◌, refl, sym, ap, ◌∙◌}
 use native.Mathlib.Numerals.{add-one}
 use native.Mathlib.Omega.{arith}
-use borrow.Author.Tests.{eq-eqb, ne_eqb, eqb-true, eqb-false}
+use borrow.Author.Tests.{eq-eqb, ne_eqb}
 use borrow.Rule.Slice.PartAt.{sl_partˢ}
 use borrow.Rule.Slice.Shared.{by_byte}
 use denote.Ref.{Bor}
 use lib.Dec.{eqb}
 use lib.ListN.{length}
-use Rattle.sheet.specs.declared.header.Header.{Header}
 use Rattle.sheet.specs.declared.line.Line.{Line}
-use Rattle.sheet.specs.declared.line.Reading.{Reading}
 use Rattle.sheet.specs.declared.lookup.Part.{Part}
 use Rattle.sheet.specs.Answers.{header_answer, line_answer}
 use Rattle.sheet.specs.Line.{name_columns, name_start, newline_at, line_length, line_of, LineAnswer, line_asked, read_line}
@@ -24,72 +25,53 @@ use Rattle.sheet.proofs.Laws.Reading.Header.{line_ends, line_fits}
 use Rattle.sheet.proofs.Laws.Names.{name_good_lem}
 
 -- What the answers of a header and of a line say.
-pub header_says : (r x : Header) (s : List ℕ) → r ≡ x → header_answer r ≡ read_header s → (header_answer x).lines ≡ line_count s
-unfolding read_header
-header_says r x s same e = ap (λ (a : HeaderAnswer). a.lines) (ap header_answer (sym same) ∙ e)
+pub header_says : (r : Result ℕ Refusal) (s : List ℕ) → header_answer r ≡ read_header s → result_ok r ≡ line_count s
+unfolding header_answer read_header
+header_says r s e = ap (λ (a : HeaderAnswer). a.lines) e
 
-pub line_says : (r x : Reading) (s : List ℕ) → r ≡ x → line_answer r ≡ read_line s → (line_answer x).line ≡ line_of s
-unfolding read_line line_asked
-line_says r x s same e = ap (λ (a : LineAnswer). a.line) (ap line_answer (sym same) ∙ e)
+pub line_says : (r : Result Line Refusal) (s : List ℕ) → line_answer r ≡ read_line s → result_ok r ≡ line_of s
+unfolding line_answer read_line line_asked
+line_says r s e = ap (λ (a : LineAnswer). a.line) e
 
--- The name of a good line has 1 to 32 bytes.
-name_length : (s : List ℕ) (l : Line) → line_of s ≡ Some l → (1 ≤ l.name_length) × (l.name_length ≤ name_columns)
-name_length s l e =
-    let size = line_name_size s l e in
-    let g = name_good_lem _ (line_name_good s l e) in
-    (omega (arith, g.named), omega (arith, g.fits))
-
--- The part found already, or else another; no size says that none is found.
-or_else : Part → Part → Part
-or_else p q = elim (eqb p.size 0) [ true ↦ q | false ↦ p ]
-
-found : (p q : Part) → (p.size ≡ 0 → ⊥) → or_else p q ≡ p
-unfolding or_else
-found p q h = rw (ne_eqb p.size 0 h, or_else)
-
-not_found : (p q : Part) → p.size ≡ 0 → or_else p q ≡ q
-unfolding or_else
-not_found p q h = rw (eq-eqb p.size 0 h, or_else)
+-- The name of a good line has at most 32 bytes.
+name_fits : (s : List ℕ) (l : Line) → line_of s ≡ Some l → l.name_length ≤ name_columns
+name_fits s l e = omega (arith, line_name_size s l e, (name_good_lem _ (line_name_good s l e)).fits)
 
 -- The part, where all lines are good.
 unfoldable pub where_good : Bool → Part → Part
 where_good good p = elim good [ true ↦ p | false ↦ empty_part ]
 
--- The part that a lookup hands back, where it found p so far and these lines are left, from line k on.
-pub pending : Part → ℕ → ℕ → List (Option Line) → Part
-pending p tag k lines = where_good (all_good lines) (or_else p (name_part_from tag k lines))
+-- The part that a lookup hands back, where it found so much and these lines are left, from line k on.
+pub pending : Option Part → ℕ → ℕ → List (Option Line) → Part
+pending found tag k lines = where_good (all_good lines) (unwrap_or found (name_part_from tag k lines))
 
 -- What a good line leaves: the name was found already, the line has another tag, or its name is the one.
-module _ (p : Part) (tag k : ℕ) (l : Line) (rest : List (Option Line)) where
-  another : (l.sample.tag ≡ tag → ⊥) → name_part_from tag k (Some l ∷ rest) ≡ name_part_from tag (k + 1) rest
-  unfolding name_part_from
-  another h = rw (ne_eqb l.sample.tag tag h, name_part_from, add-one)
-
-  the_one : l.sample.tag ≡ tag → name_part_from tag k (Some l ∷ rest) ≡ record { start = line_start k + name_start; size = l.name_length }
-  unfolding name_part_from
-  the_one h = rw (eq-eqb l.sample.tag tag h, name_part_from)
-
-  one_more : (q : Part) → or_else p (name_part_from tag k (Some l ∷ rest)) ≡ or_else q (name_part_from tag (k + 1) rest)
-      → pending p tag k (Some l ∷ rest) ≡ pending q tag (k + 1) rest
+module _ (found : Option Part) (tag k : ℕ) (l : Line) (rest : List (Option Line)) where
+  one_more : (more : Option Part) → unwrap_or found (name_part_from tag k (Some l ∷ rest)) ≡ unwrap_or more (name_part_from tag (k + 1) rest)
+      → pending found tag k (Some l ∷ rest) ≡ pending more tag (k + 1) rest
   unfolding pending all_good
-  one_more q e = ap (where_good (all_good rest)) e
+  one_more more e = ap (where_good (all_good rest)) e
 
-  after : (p.size ≡ 0 → ⊥) → pending p tag k (Some l ∷ rest) ≡ pending p tag (k + 1) rest
-  after h = one_more p (found p _ h ∙ sym (found p _ h))
+  passed : (l.sample.tag ≡ tag → ⊥) → pending found tag k (Some l ∷ rest) ≡ pending found tag (k + 1) rest
+  unfolding name_part_from
+  passed h = one_more found (ap (unwrap_or found) (rw (ne_eqb l.sample.tag tag h, name_part_from, add-one)))
 
-  passed : (l.sample.tag ≡ tag → ⊥) → pending p tag k (Some l ∷ rest) ≡ pending p tag (k + 1) rest
-  passed h = one_more p (ap (or_else p) (another h))
+after : (found : Option Part) (tag k : ℕ) (l : Line) (rest : List (Option Line)) → is_some found ≡ true
+    → pending found tag k (Some l ∷ rest) ≡ pending found tag (k + 1) rest
+after None tag k l rest e = cc
+after (Some p) tag k l rest e = one_more (Some p) tag k l rest (Some p) refl
 
-  hit : p.size ≡ 0 → l.sample.tag ≡ tag → (l.name_length ≡ 0 → ⊥)
-      → pending p tag k (Some l ∷ rest) ≡ pending (record { start = line_start k + name_start; size = l.name_length }) tag (k + 1) rest
-  hit h same named = one_more _ (not_found p _ h ∙ the_one same ∙ sym (found _ _ named))
+hit : (found : Option Part) (tag k : ℕ) (l : Line) (rest : List (Option Line)) → is_some found ≡ false → l.sample.tag ≡ tag
+    → pending found tag k (Some l ∷ rest) ≡ pending (Some (record { start = line_start k + name_start; size = l.name_length })) tag (k + 1) rest
+unfolding name_part_from
+hit None tag k l rest e same = one_more None tag k l rest _ (rw (eq-eqb l.sample.tag tag same, name_part_from))
+hit (Some p) tag k l rest e same = cc
 
--- The state of a lookup before line k, with the part found so far: what is left to find gives the part that it hands back.
-pub record SoFar (s : List ℕ) (tag count k start size : ℕ) : Type 0 where
+-- The state of a lookup before line k, with what was found so far: what is left to find gives the part that it hands back.
+pub record SoFar (s : List ℕ) (tag count k : ℕ) (found : Option Part) : Type 0 where
   pub reached : k ≤ count
   pub fits : (j : ℕ) → j < count → line_start (suc j) ≤ length s
-  pub unfound : size ≡ 0 → start ≡ 0
-  pub left : name_part s tag ≡ pending (record { start = start; size = size }) tag k (lines_from s k (count - k))
+  pub left : name_part s tag ≡ pending found tag k (lines_from s k (count - k))
 
 -- The lookup, by the lines that a header counts.
 abbrev pub looked_up : ℕ → List (Option Line) → Part
@@ -104,21 +86,20 @@ pub no_header : (s : List ℕ) (tag : ℕ) → None ≡ line_count s → empty_p
 unfolding lines_by name_part_from all_good where_good
 no_header s tag e = sym (looked_up_lem s tag None (sym e))
 
-pub begins : (s : List ℕ) (tag count : ℕ) → Some count ≡ line_count s → SoFar s tag count 0 0 0
-unfolding lines_by pending or_else
+pub begins : (s : List ℕ) (tag count : ℕ) → Some count ≡ line_count s → SoFar s tag count 0 None
+unfolding lines_by pending
 begins s tag count e =
     let all : count ≡ count - 0 = omega arith in
     record {
       reached = omega arith;
       fits = λ j h. line_fits s count j (sym e) h;
-      unfound = λ z. refl;
       left = looked_up_lem s tag (Some count) (sym e) ∙ ap (λ (n : ℕ). looked_up tag (lines_from s 0 n)) all;
     }
 
 -- From one state to the next.
-module _ {s : List ℕ} {tag count k start size : ℕ} (h : SoFar s tag count k start size) where
+module _ {s : List ℕ} {tag count k : ℕ} {found : Option Part} (h : SoFar s tag count k found) where
   next : k < count → (o : Option Line) → o ≡ line_of (line_part s k)
-      → name_part s tag ≡ pending (record { start = start; size = size }) tag k (o ∷ lines_from s (k + 1) (count - (k + 1)))
+      → name_part s tag ≡ pending found tag k (o ∷ lines_from s (k + 1) (count - (k + 1)))
   unfolding lines_from
   next more o e =
       let one : count - k ≡ suc (count - (k + 1)) = omega arith in
@@ -130,34 +111,27 @@ module _ {s : List ℕ} {tag count k start size : ℕ} (h : SoFar s tag count k 
   bad_line more e = sym (next more None e)
 
   -- No line left.
-  pub ends : count ≤ k → record { start = start; size = size } ≡ name_part s tag
-  unfolding pending lines_from all_good where_good name_part_from empty_part
+  pub ends : count ≤ k → unwrap_or found empty_part ≡ name_part s tag
+  unfolding pending lines_from all_good where_good name_part_from
   ends end =
       let none_left : count - k ≡ 0 = omega arith in
-      sym (h.left ∙ rw (none_left, lines_from) (go (eqb size 0) refl))
-    where
-      go : (q : Bool) → eqb size 0 ≡ q → or_else (record { start = start; size = size }) empty_part ≡ record { start = start; size = size }
-      go true e = not_found _ _ (eqb-true size 0 e) ∙ cc (h.unfound (eqb-true size 0 e), eqb-true size 0 e)
-      go false e = found _ _ (eqb-false size 0 e)
+      sym (h.left ∙ rw (none_left, lines_from))
 
   -- A good line: the name was found before it, it has another tag, or its name is the one.
   module _ (more : k < count) {l : Line} (e : Some l ≡ line_of (line_part s k)) where
-    onward : {start' size' : ℕ} → (size' ≡ 0 → start' ≡ 0)
-        → pending (record { start = start; size = size }) tag k (Some l ∷ lines_from s (k + 1) (count - (k + 1)))
-        ≡ pending (record { start = start'; size = size' }) tag (k + 1) (lines_from s (k + 1) (count - (k + 1)))
-        → SoFar s tag count (k + 1) start' size'
-    onward z w = record { reached = omega arith; fits = h.fits; unfound = z; left = next more _ e ∙ w }
+    onward : {found' : Option Part}
+        → pending found tag k (Some l ∷ lines_from s (k + 1) (count - (k + 1))) ≡ pending found' tag (k + 1) (lines_from s (k + 1) (count - (k + 1)))
+        → SoFar s tag count (k + 1) found'
+    onward w = record { reached = omega arith; fits = h.fits; left = next more _ e ∙ w }
 
-    pub found_before : (size ≡ 0 → ⊥) → SoFar s tag count (k + 1) start size
-    found_before z = onward h.unfound (after _ _ _ _ _ z)
+    pub found_before : is_some found ≡ true → SoFar s tag count (k + 1) found
+    found_before z = onward (after _ _ _ _ _ z)
 
-    pub another_tag : (l.sample.tag ≡ tag → ⊥) → SoFar s tag count (k + 1) start size
-    another_tag other = onward h.unfound (passed _ _ _ _ _ other)
+    pub another_tag : (l.sample.tag ≡ tag → ⊥) → SoFar s tag count (k + 1) found
+    another_tag other = onward (passed _ _ _ _ _ other)
 
-    pub finds : size ≡ 0 → l.sample.tag ≡ tag → SoFar s tag count (k + 1) (line_start k + name_start) l.name_length
-    finds z same =
-        let named = name_length _ l (sym e) in
-        onward (λ w. absurd (omega arith)) (hit _ _ _ _ _ z same (λ w. omega arith))
+    pub finds : is_some found ≡ false → l.sample.tag ≡ tag → SoFar s tag count (k + 1) (Some (record { start = line_start k + name_start; size = l.name_length }))
+    finds z same = onward (hit _ _ _ _ _ z same)
 
 -- That a part lies within the first m bytes.
 abbrev Within : Part → ℕ → Type 0
@@ -182,7 +156,7 @@ from_within s tag k (suc n) m fits =
     go : (o : Option Line) → line_of (line_part s k) ≡ o → Within (name_part_from tag (suc k) (lines_from s (suc k) n)) m
         → Within (name_part_from tag k (o ∷ lines_from s (suc k) n)) m
     go None e h = h
-    go (Some l) e h = line_within tag k m l (lines_from s (suc k) n) (name_length (line_part s k) l e).1 (fits k (omega arith)) h
+    go (Some l) e h = line_within tag k m l (lines_from s (suc k) n) (name_fits (line_part s k) l e) (fits k (omega arith)) h
 
 good_within : (good : Bool) (p : Part) (m : ℕ) → Within p m → Within (where_good good p) m
 unfolding where_good empty_part

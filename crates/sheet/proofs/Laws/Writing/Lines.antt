@@ -2,6 +2,7 @@
 use Prim.Native.Nat.{ℕ, ◌+◌, ◌-◌, ◌≤◌}
 use mathlib.Core.Bool.{Bool, true, false}
 use mathlib.Core.List.{List, [], ◌∷◌, ◌++◌, append_assoc}
+use Rattle.std.specs.Prelude.{Result, Err}
 use mathlib.Core.Path.{◌≡◌, refl, sym, ap, ◌∙◌}
 use native.Mathlib.Omega.{arith}
 use borrow.Author.Tests.{eq-eqb, ne_eqb, leb-true}
@@ -14,8 +15,6 @@ use Rattle.colour.specs.declared.refusal.Refusal.{Refusal}
 use Rattle.colour.specs.Colour.{codes_fit}
 use Rattle.colour.specs.Question.{asks, first_no}
 use Rattle.colour.proofs.Laws.Questions.{asked, refusal_numbered}
-use Rattle.sheet.specs.declared.writer.Written.{Written}
-use Rattle.sheet.specs.declared.writer.Written.TheVariants as W
 use Rattle.sheet.specs.Answers.{written_answer, written_number}
 use Rattle.sheet.specs.Computes.{sheet_numbers}
 use Rattle.sheet.specs.Column.{blank, newline, column_of}
@@ -120,7 +119,7 @@ module _ (codes name room : Bool) where
   no_no c n r = rw (c, n, r)
 
 -- A refusal has a number.
-pub refused : (w : Written) (r : Refusal) → w ≡ W.Refused r → written_number w ≡ 0 → ⊥
+pub refused : (w : Result (Unit {0}) Refusal) (r : Refusal) → w ≡ Err r → written_number w ≡ 0 → ⊥
 refused w r e z = refusal_numbered r (sym (ap written_number e) ∙ z)
 
 -- What is accepted: each question was answered with yes.
@@ -138,7 +137,7 @@ accepted s name lent z =
     record { codes = codes.0; named = named.0; room = leb-true line_length (length lent) room.0 }
 
 -- What is asked of the line to write, as the code asks it.
-module _ (s : Sample) (name lent : List ℕ) (codes good room : Bool) (w : Written)
+module _ (s : Sample) (name lent : List ℕ) (codes good room : Bool) (w : Result (Unit {0}) Refusal)
     (c : codes ≡ codes_fit s.colour) (n : good ≡ name_good name) (r : room ≡ leb line_length (length lent))
     (said : written_number w ≡ first_no (asks 4 codes ∷ asks 10 good ∷ asks 13 room ∷ [])) where
   number_is : written_number w ≡ write_number s name lent

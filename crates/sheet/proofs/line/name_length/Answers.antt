@@ -2,8 +2,9 @@
 use native.Mathlib.Omega.{arith}
 use Rattle.sheet.proofs.Laws.Parts.{part_tail}
 use Rattle.sheet.proofs.Laws.Text.{leading_most}
-use Rattle.sheet.proofs.Laws.Reading.Lines.{name_followed, name_alone}
+use Rattle.sheet.proofs.Laws.Reading.Lines.{name_none, name_followed, name_alone}
 use Rattle.sheet.proofs.line.name_length.Goals as goal
+use Rattle.sheet.proofs.line.name_length.Goals.{then-n-eq0-via-then-n-eq0, then-n-eq0-via-else-n-eq0+then-blanks-rest}
 
 pub slice_bounds-rest-count : goal.slice_bounds-rest-count
 slice_bounds-rest-count c =
@@ -13,12 +14,14 @@ pub slice_bounds-rest-start : goal.slice_bounds-rest-start
 slice_bounds-rest-start c =
     omega (arith, leading_most c.args.field.now)
 
-pub returns-then-blanks-rest : goal.returns-then-blanks-rest
-returns-then-blanks-rest c =
-    name_followed _ _ c.name_bytes-n.ensures _ (part_tail c.args.field.now c.name_bytes-n.result) _ c.blanks.ensures
-    c.if-blanks-rest.true
+pub returns-then-n-eq0 : goal.returns-then-n-eq0
+returns-then-n-eq0 c =
+    elim c.then-n-eq0.branch [
+      | then-n-eq0-via-then-n-eq0 w ↦ name_none _ _ c.name_bytes-n.ensures w.if-n-eq0.true
+      | then-n-eq0-via-else-n-eq0+then-blanks-rest w ↦ name_followed _ _ c.name_bytes-n.ensures _ (part_tail c.args.field.now c.name_bytes-n.result) _ w.blanks.ensures w.if-blanks-rest.true
+    ]
 
 pub returns : goal.returns
 returns c =
     name_alone _ _ c.name_bytes-n.ensures _ (part_tail c.args.field.now c.name_bytes-n.result) _ c.blanks.ensures
-    c.if-blanks-rest.false c.requires
+    c.if-blanks-rest.false c.requires c.if-n-eq0.false

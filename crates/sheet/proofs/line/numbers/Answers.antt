@@ -1,83 +1,78 @@
 -- `line::numbers`: what the columns hold, by laws of Laws.Reading.Lines.
-use mathlib.Core.Path.{sym, ap, ◌∙◌}
+use mathlib.Core.Path.{sym}
 use native.Mathlib.Omega.{arith}
 use lib.Seq.{length-take-le}
 use Rattle.colour.specs.Colour.{Red, Green, Blue, code_in}
 use Rattle.sheet.specs.Computes.{sheet_numbers}
 use Rattle.sheet.specs.Line.{line_numbers}
-use Rattle.sheet.specs.Steps.{number_is, greatest_tag, greatest_code}
+use Rattle.sheet.specs.Steps.{greatest_tag, greatest_code}
 use Rattle.sheet.proofs.Laws.Reading.Digits.{within_some}
 use Rattle.sheet.proofs.Laws.Numbers.{line_length_is}
-use Rattle.sheet.proofs.Laws.Reading.Lines.{line_refused, line_good, no_tag, no_code, all_numbers}
+use Rattle.sheet.proofs.Laws.Reading.Lines.{no_tag, no_code, all_numbers}
 use Rattle.sheet.proofs.line.numbers.Goals as goal
 
 pub slice_bounds-read_number-end : goal.slice_bounds-read_number-end
 slice_bounds-read_number-end c =
     sym (length-take-le 10 c.args.line.now (omega (arith, c.requires, line_length_is)))
 
-pub returns-in_default : goal.returns-in_default
-unfolding number_is line_numbers sheet_numbers
-returns-in_default c =
-    line_refused _ (no_tag _ _ _ _ _ (ap number_is (sym c.in_default.is) ∙ c.read_number.ensures))
+pub returns-in_err-tag : goal.returns-in_err-tag
+unfolding line_numbers sheet_numbers
+returns-in_err-tag c =
+    rw c.from_residual.ensures (no_tag _ _ _ _ _ c.in_err-tag.ensures)
 
 pub code_at-requires : goal.code_at-requires
 unfolding sheet_numbers
 code_at-requires c =
     omega arith
 
-pub returns-in_default-code_at : goal.returns-in_default-code_at
-unfolding number_is line_numbers sheet_numbers
-returns-in_default-code_at c =
-    line_refused _ (no_code _ _ _ _ _ Red (ap number_is (sym c.in_default-code_at.is) ∙ c.code_at.ensures))
+pub returns-in_err-red : goal.returns-in_err-red
+unfolding line_numbers sheet_numbers
+returns-in_err-red c =
+    rw c.from_residual-in_err-red.ensures (no_code _ _ _ _ _ Red c.in_err-red.ensures)
 
 pub code_at-requires-2 : goal.code_at-requires-2
 unfolding sheet_numbers
 code_at-requires-2 c =
     omega arith
 
-pub returns-in_default-code_at-2 : goal.returns-in_default-code_at-2
-unfolding number_is line_numbers sheet_numbers
-returns-in_default-code_at-2 c =
-    line_refused _ (no_code _ _ _ _ _ Green (ap number_is (sym c.in_default-code_at-2.is) ∙ c.code_at-2.ensures))
+pub returns-in_err-green : goal.returns-in_err-green
+unfolding line_numbers sheet_numbers
+returns-in_err-green c =
+    rw c.from_residual-in_err-green.ensures (no_code _ _ _ _ _ Green c.in_err-green.ensures)
 
 pub code_at-requires-3 : goal.code_at-requires-3
 unfolding sheet_numbers
 code_at-requires-3 c =
     omega arith
 
-pub returns-in_default-code_at-3 : goal.returns-in_default-code_at-3
-unfolding number_is line_numbers sheet_numbers
-returns-in_default-code_at-3 c =
-    line_refused _ (no_code _ _ _ _ _ Blue (ap number_is (sym c.in_default-code_at-3.is) ∙ c.code_at-3.ensures))
+pub returns-in_err-blue : goal.returns-in_err-blue
+unfolding line_numbers sheet_numbers
+returns-in_err-blue c =
+    rw c.from_residual-in_err-blue.ensures (no_code _ _ _ _ _ Blue c.in_err-blue.ensures)
 
 pub overflow_cast-result : goal.overflow_cast-result
-unfolding number_is
 overflow_cast-result c =
-    omega (arith, (within_some greatest_tag _ _ (ap number_is (sym c.in-Is.is) ∙ c.read_number.ensures)).1)
+    omega (arith, (within_some greatest_tag _ _ c.in_ok-tag.ensures).1)
 
 pub overflow_cast-result-2 : goal.overflow_cast-result-2
-unfolding number_is
 overflow_cast-result-2 c =
-    omega (arith, (within_some greatest_code _ _ (ap number_is (sym c.in-Is-code_at.is) ∙ c.code_at.ensures)).1)
+    omega (arith, (within_some greatest_code _ _ c.in_ok-red.ensures).1)
 
 pub overflow_cast-result-3 : goal.overflow_cast-result-3
-unfolding number_is
 overflow_cast-result-3 c =
-    omega (arith, (within_some greatest_code _ _ (ap number_is (sym c.in-Is-code_at-2.is) ∙ c.code_at-2.ensures)).1)
+    omega (arith, (within_some greatest_code _ _ c.in_ok-green.ensures).1)
 
 pub overflow_cast-result-4 : goal.overflow_cast-result-4
-unfolding number_is
 overflow_cast-result-4 c =
-    omega (arith, (within_some greatest_code _ _ (ap number_is (sym c.in-Is-code_at-3.is) ∙ c.code_at-3.ensures)).1)
+    omega (arith, (within_some greatest_code _ _ c.in_ok-blue.ensures).1)
 
 pub returns : goal.returns
-unfolding number_is line_numbers sheet_numbers code_in
+unfolding line_numbers sheet_numbers code_in
 returns c =
-    line_good _ _
-    (all_numbers _ _ _ _ _ _
-    (ap number_is (sym c.in-Is.is) ∙ c.read_number.ensures)
+    all_numbers _ _ _ _ _ _
+    c.in_ok-tag.ensures
     (elim [
-      | Red ↦ ap number_is (sym c.in-Is-code_at.is) ∙ c.code_at.ensures
-      | Green ↦ ap number_is (sym c.in-Is-code_at-2.is) ∙ c.code_at-2.ensures
-      | Blue ↦ ap number_is (sym c.in-Is-code_at-3.is) ∙ c.code_at-3.ensures
-    ]))
+      | Red ↦ c.in_ok-red.ensures
+      | Green ↦ c.in_ok-green.ensures
+      | Blue ↦ c.in_ok-blue.ensures
+    ])

@@ -1,27 +1,17 @@
--- `text::blanks`: the blanks passed are those before the text.
-use mathlib.Core.Path.{refl, ◌∙◌}
-use native.Mathlib.Omega.{arith}
+-- `text::blanks`: before the first byte found stand the blanks.
+use Rattle.std.proofs.Common.{rules, ◌≡◌, nat_eq}
+use Rattle.std.proofs.lemmas.Iterator.{YieldsList-from_slice}
+use Rattle.std.proofs.lemmas.Iterator.Search.{position_from_yields_List}
+use Rattle.std.specs.Prelude.{not, position}
+use borrow.Author.Tests.{tests}
 use Rattle.sheet.specs.Column.{blank}
-use Rattle.sheet.proofs.Laws.Text.{trimmed_blank, trimmed_stops, trimmed_end, blanks_first}
+use Rattle.sheet.proofs.Laws.Text.{blanks_first}
 use Rattle.sheet.proofs.text.blanks.Goals as goal
 
-pub loop-i-init : goal.loop-i-init
-loop-i-init c =
-    (omega arith, refl)
-
-pub returns-then-text-i-ne32 : goal.returns-then-text-i-ne32
-unfolding blank
-returns-then-text-i-ne32 c =
-    let l = c.loop-i in
-    blanks_first _ l.i l.invariant.0 (l.invariant.1 ∙ trimmed_stops _ l.i (omega arith) c.if-text-i-ne32.true)
-
-pub loop-i-preserved : goal.loop-i-preserved
-unfolding blank
-loop-i-preserved c =
-    let l = c.loop-i in
-    (omega arith, l.invariant.1 ∙ trimmed_blank _ l.i (omega arith) c.if-text-i-ne32.false)
-
 pub returns : goal.returns
+unfolding blank
 returns c =
-    let l = c.loop-i in
-    blanks_first _ l.i l.invariant.0 (l.invariant.1 ∙ trimmed_end _ l.i (omega arith))
+    let found : c.position.result ≡ position (λ x. not (nat_eq x 32)) c.args.text.now =
+    position_from_yields_List (λ x. not (nat_eq x 32)) _ _ c.position.result c.position.ensures.ran
+    (YieldsList-from_slice _ c.iter.ensures.rest) (λ x b q k. search (rules, tests)) in
+    rw (c.unwrap_or.ensures, found) (blanks_first c.args.text.now)
