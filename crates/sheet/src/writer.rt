@@ -1,7 +1,8 @@
 // The line writer.
 ghost use Rattle.std.specs.Prelude.{[], ◌∷◌, ◌++◌, ◌≡◌, ◌+◌, ◌≤◌, length, drop};
 ghost use Rattle.colour.specs.Question.{asks, first_no};
-ghost use Rattle.sheet.specs.Answers.{written_answer, written_number};
+ghost use Rattle.colour.specs.Refusal.{answer_number};
+ghost use Rattle.sheet.specs.Answers.{written_answer};
 ghost use Rattle.sheet.specs.Column.{column_of};
 ghost use Rattle.sheet.specs.Line.{name_columns, blank_at, line_length, name_good, number_columns, line_bytes, write_line};
 ghost use Rattle.sheet.specs.Steps.{put_at};
@@ -15,16 +16,6 @@ use crate::text::{name_bytes, put_left};
 use colour::Sample;
 use colour::panel::codes_fit;
 use colour::refusal::Refusal;
-
-// The number of an answer.
-pub fn number_of(answer: Result<(), Refusal>) -> u32
-    ensures { result ≡ written_number answer }
-{
-    match answer {
-        Ok(()) => 0,
-        Err(refusal) => colour::refusal::number_of(refusal),
-    }
-}
 
 // Whether a name is good: question 10.
 fn name_good(name: &[u8]) -> bool
@@ -68,7 +59,7 @@ fn put_line(sample: Sample, name: &[u8], line: &mut [u8])
 
 // The first of the writer's questions that has a no: the refusal of question 4, 10 or 13.
 fn first_no(codes: bool, name: bool, room: bool) -> Result<(), Refusal>
-    ensures { written_number result ≡ first_no (asks 4 codes ∷ asks 10 name ∷ asks 13 room ∷ []) }
+    ensures { answer_number result ≡ first_no (asks 4 codes ∷ asks 10 name ∷ asks 13 room ∷ []) }
 {
     if !codes {
         return Err(Refusal::Code);

@@ -18,7 +18,8 @@ use Rattle.colour.proofs.Laws.Channels.{each_every, each_no}
 use Rattle.sheet.specs.declared.line.Line.{Line}
 use Rattle.sheet.specs.declared.line.Reading.TheVariants as R
 use Rattle.sheet.specs.declared.writer.Written.{Written}
-use Rattle.sheet.specs.Answers.{line_answer, written_answer, written_number}
+use Rattle.sheet.specs.Answers.{line_answer, written_answer}
+use Rattle.colour.specs.Refusal.{answer_number}
 use Rattle.sheet.specs.Line.{LineAnswer, WriteAnswer, name_start, newline_at, line_length, name_good, line_of, line_asked, read_line, write_number, write_line}
 use Rattle.sheet.specs.Sheet.{same_bytes}
 use Rattle.sheet.proofs.Laws.Names.{name_good_lem}
@@ -69,7 +70,7 @@ pub record Stands (s : Sample) (name left : List ℕ) : Type 0 where
 
 -- The writer's answer, over as many bytes as a line has.
 module _ (s : Sample) (name lent left : List ℕ) (w : Written) (room : length lent ≡ line_length) (said : written_answer w left ≡ write_line s name lent) where
-  number_is : written_number w ≡ (write_line s name lent).number
+  number_is : answer_number w ≡ (write_line s name lent).number
   unfolding written_answer
   number_is = ap (λ (a : WriteAnswer). a.number) said
 
@@ -78,14 +79,14 @@ module _ (s : Sample) (name lent left : List ℕ) (w : Written) (room : length l
   left_is = ap (λ (a : WriteAnswer). a.left) said
 
   -- It refuses only where the sample has no codes or the name is not good.
-  pub none_written : (written_number w ≡ 0 → ⊥) → false ≡ (codes_fit s.colour && name_good name)
+  pub none_written : (answer_number w ≡ 0 → ⊥) → false ≡ (codes_fit s.colour && name_good name)
   unfolding write_line write_number first_no
   none_written refused =
       both (codes_fit s.colour) (name_good name)
       (λ f g. refused (number_is ∙ rw (f, g, le-leb line_length (length lent) (omega arith))))
 
   -- Where it does not, the line stands.
-  pub line_written : written_number w ≡ 0 → length left ≡ line_length → s.tag < 2 ^ 32 → Stands s name left
+  pub line_written : answer_number w ≡ 0 → length left ≡ line_length → s.tag < 2 ^ 32 → Stands s name left
   unfolding is_tag write_line
   line_written accepts size tag =
       let z : (write_line s name lent).number ≡ 0 = sym number_is ∙ accepts in

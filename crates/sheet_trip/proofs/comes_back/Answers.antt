@@ -2,7 +2,8 @@
 use mathlib.Core.Bool.{true≢false}
 use mathlib.Core.Path.{refl, sym, ap, ◌∙◌}
 use native.Mathlib.Omega.{arith}
-use Rattle.sheet.specs.Answers.{line_answer, written_number}
+use Rattle.sheet.specs.Answers.{line_answer}
+use Rattle.colour.specs.Refusal.{answer_number}
 use Rattle.sheet.specs.Computes.{sheet_numbers}
 use Rattle.sheet.proofs.Laws.Writing.Lines.{refused}
 use Rattle.sheet_trip.proofs.Trip.{Stands, Back, none_written, line_written, never_refused, reads_back}
@@ -13,7 +14,7 @@ use Rattle.sheet_trip.proofs.comes_back.Goals.{In-Good, In-Line}
 stands : (c : In-Line) → Stands c.args.sample c.args.name.now c.write_line-answer.new.line
 unfolding sheet_numbers
 stands c =
-    line_written _ _ _ _ _ refl c.write_line-answer.ensures (ap written_number c.in-Line.is) c.write_line-answer.auto.line
+    line_written _ _ _ _ _ refl c.write_line-answer.ensures (ap answer_number c.in-Line.is) c.write_line-answer.auto.line
     (omega (arith, c.well_formed.0))
 
 -- What is read from it comes back.

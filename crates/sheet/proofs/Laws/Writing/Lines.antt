@@ -15,7 +15,8 @@ use Rattle.colour.specs.declared.refusal.Refusal.{Refusal}
 use Rattle.colour.specs.Colour.{codes_fit}
 use Rattle.colour.specs.Question.{asks, first_no}
 use Rattle.colour.proofs.Laws.Questions.{asked, refusal_numbered}
-use Rattle.sheet.specs.Answers.{written_answer, written_number}
+use Rattle.sheet.specs.Answers.{written_answer}
+use Rattle.colour.specs.Refusal.{answer_number}
 use Rattle.sheet.specs.Computes.{sheet_numbers}
 use Rattle.sheet.specs.Column.{blank, newline, column_of}
 use Rattle.sheet.specs.Line.{tag_columns, code_columns, name_columns, red_start, green_start, blue_start, blank_at, name_start, newline_at, line_length, name_good, number_columns, line_bytes, write_number, write_line}
@@ -119,8 +120,8 @@ module _ (codes name room : Bool) where
   no_no c n r = rw (c, n, r)
 
 -- A refusal has a number.
-pub refused : (w : Result (Unit {0}) Refusal) (r : Refusal) → w ≡ Err r → written_number w ≡ 0 → ⊥
-refused w r e z = refusal_numbered r (sym (ap written_number e) ∙ z)
+pub refused : (w : Result (Unit {0}) Refusal) (r : Refusal) → w ≡ Err r → answer_number w ≡ 0 → ⊥
+refused w r e z = refusal_numbered r (sym (ap answer_number e) ∙ z)
 
 -- What is accepted: each question was answered with yes.
 pub record Accepted (s : Sample) (name lent : List ℕ) : Type 0 where
@@ -139,20 +140,20 @@ accepted s name lent z =
 -- What is asked of the line to write, as the code asks it.
 module _ (s : Sample) (name lent : List ℕ) (codes good room : Bool) (w : Result (Unit {0}) Refusal)
     (c : codes ≡ codes_fit s.colour) (n : good ≡ name_good name) (r : room ≡ leb line_length (length lent))
-    (said : written_number w ≡ first_no (asks 4 codes ∷ asks 10 good ∷ asks 13 room ∷ [])) where
-  number_is : written_number w ≡ write_number s name lent
+    (said : answer_number w ≡ first_no (asks 4 codes ∷ asks 10 good ∷ asks 13 room ∷ [])) where
+  number_is : answer_number w ≡ write_number s name lent
   unfolding write_number
   number_is = said ∙ rw (c, n, r)
 
   -- A refusal leaves the bytes lent.
-  pub left_alone : (written_number w ≡ 0 → ⊥) → written_answer w lent ≡ write_line s name lent
+  pub left_alone : (answer_number w ≡ 0 → ⊥) → written_answer w lent ≡ write_line s name lent
   unfolding written_answer write_line
   left_alone z = rw (number_is, ne_eqb (write_number s name lent) 0 (λ e. z (number_is ∙ e)))
 
-  pub all_yes : written_number w ≡ 0 → Accepted s name lent
+  pub all_yes : answer_number w ≡ 0 → Accepted s name lent
   all_yes z = accepted s name lent (sym number_is ∙ z)
 
   -- The line stands over the bytes lent.
-  pub line_stands : written_number w ≡ 0 → (left : List ℕ) → left ≡ line_bytes s name ++ drop line_length lent → written_answer w left ≡ write_line s name lent
+  pub line_stands : answer_number w ≡ 0 → (left : List ℕ) → left ≡ line_bytes s name ++ drop line_length lent → written_answer w left ≡ write_line s name lent
   unfolding written_answer write_line
   line_stands z left e = rw (number_is, eq-eqb (write_number s name lent) 0 (sym number_is ∙ z), e)
