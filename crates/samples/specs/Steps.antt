@@ -1,6 +1,6 @@
 -- What the functions under the calls ask and promise. No call's own promise cites these.
 use Rattle.std.specs.Prelude.{ℕ, zero, suc, ◌+◌, ◌-◌, ◌≤◌, ◌<◌, Bool, true, false, not, List, [], ◌∷◌, ◌++◌, ◌≡◌, eqb, leb, length, take, drop}
-use Rattle.std.proofs.Math.Option.{Option, none, some}
+use Rattle.std.specs.Prelude.{Option, None, Some, Result}
 use Rattle.colour.specs.declared.Sample.{Sample}
 use Rattle.colour.specs.declared.Settings.{Settings}
 use Rattle.colour.specs.Colour.{codes_fit}
@@ -14,7 +14,7 @@ use Rattle.model.specs.Machine.{Machine, Changing, Change, Answer, with_set, wit
 use Rattle.model.specs.Sound.{Shows, Sound, Distinct, CodesInRange}
 use Rattle.model.specs.Meets.{Follows}
 use Rattle.words.specs.Rows.{count_in, first_samples, set_of}
-use Rattle.samples.specs.declared.answers.Loaded.{Loaded}
+use Rattle.samples.specs.declared.answers.Stop.{Stop}
 use Rattle.samples.specs.Answers.{loaded_number, loaded_taken}
 
 -- The answer and the tables are the machine's, for every machine that the tables show.
@@ -29,6 +29,10 @@ holding m xs = with_set m (with_samples m.set xs)
 unfoldable pub row_of_tag : ℕ → List Sample → ℕ
 row_of_tag t [] = 0
 row_of_tag t (s ∷ rest) = elim (eqb s.tag t) [ true ↦ 0 | false ↦ suc (row_of_tag t rest) ]
+
+-- The place, if there is one.
+unfoldable pub row_found : ℕ → List Sample → Option ℕ
+row_found t xs = elim (has_tag t xs) [ true ↦ Some (row_of_tag t xs) | false ↦ None ]
 
 -- The samples without the one at a place.
 unfoldable pub without_row : ℕ → List Sample → List Sample
@@ -59,8 +63,8 @@ pub record Longest (s : Settings) (ws : List ℕ) (octant_length low high r : �
 unfoldable pub good_samples : ℕ → List (Option Line) → List Sample
 good_samples zero lines = []
 good_samples (suc room) [] = []
-good_samples (suc room) (none ∷ rest) = []
-good_samples (suc room) (some l ∷ rest) = l.sample ∷ good_samples room rest
+good_samples (suc room) (None ∷ rest) = []
+good_samples (suc room) (Some l ∷ rest) = l.sample ∷ good_samples room rest
 
 -- The lines of a sheet that can be rows are rows, after the first n.
 pub record LinesPut (n : ℕ) (ws sheet : List ℕ) (lines r : ℕ) (ws' : List ℕ) : Type 0 where
@@ -76,11 +80,11 @@ stop_by known full = first_no (asks 5 (not known) ∷ asks 6 (not full) ∷ asks
 -- next is not good, and else that.
 unfoldable pub stop_number : List Sample → ℕ → List (Option Line) → ℕ
 stop_number xs rows [] = first_no []
-stop_number xs rows (none ∷ rest) = first_no (asks 12 false ∷ [])
-stop_number xs rows (some l ∷ rest) = stop_by (has_tag l.sample.tag xs) (leb rows (length xs))
+stop_number xs rows (None ∷ rest) = first_no (asks 12 false ∷ [])
+stop_number xs rows (Some l ∷ rest) = stop_by (has_tag l.sample.tag xs) (leb rows (length xs))
 
 -- A load that ends before line `taken`, with the samples in the first n rows in the set.
-pub record Stopped (n : ℕ) (ws sheet : List ℕ) (lines taken : ℕ) (r : Loaded) : Type 0 where
+pub record Stopped (n : ℕ) (ws sheet : List ℕ) (lines taken : ℕ) (r : Result ℕ Stop) : Type 0 where
   pub number : loaded_number r
       ≡ stop_number (first_samples current ws n) (sample_rows current (length ws)) (lines_from sheet taken (lines - taken))
   pub count : loaded_taken r ≡ taken

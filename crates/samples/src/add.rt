@@ -9,7 +9,6 @@ ghost use Rattle.model.specs.Meets.{Meets};
 ghost use Rattle.samples.specs.Answers.{changed_answer};
 ghost use Rattle.samples.specs.Steps.{FollowsAll, Adding};
 
-use crate::answers::Changed;
 use crate::find::row_of;
 use crate::rebuild::rebuild;
 use colour::panel::codes_fit;
@@ -20,58 +19,60 @@ use words::layout::{
     count as count_of, long_enough, put_sample, sample_rows, settings as settings_of,
 };
 
+// What stands in a row with no sample.
+const EMPTY: Sample = Sample {
+    tag: 0,
+    colour: Colour {
+        red: 0,
+        green: 0,
+        blue: 0,
+    },
+};
+
 // Question 7 and the add itself, for a sample that every question before it accepts: its row is filled, and emptied again where the tree
 // does not fit.
-fn add_in_row(samples: &mut [u32], octants: &mut [u32], n: usize, s: Sample) -> Changed
+fn add_in_row(samples: &mut [u32], octants: &mut [u32], n: usize, s: Sample) -> Result<(), Refusal>
     requires { Adding s n samples.old octants.old }
     ensures { FollowsAll (Add s) (tables_lent samples octants) (changed_answer result) (tables_left samples octants) }
 {
     let settings = settings_of(samples);
     put_sample(samples, n, s);
-    let Changed::Done = rebuild(samples, octants, settings, n + 1) else {
-        let none = Sample {
-            tag: 0,
-            colour: Colour {
-                red: 0,
-                green: 0,
-                blue: 0,
-            },
-        };
-        put_sample(samples, n, none);
-        return Changed::Refused(Refusal::NoOctants);
-    };
-    Changed::Done
+    let answer = rebuild(samples, octants, settings, n + 1);
+    if answer.is_err() {
+        put_sample(samples, n, EMPTY);
+    }
+    answer
 }
 
 // Questions 5 and 6, and then the rest, for a sample that has codes.
-fn add_coded(samples: &mut [u32], octants: &mut [u32], s: Sample) -> Changed
+fn add_coded(samples: &mut [u32], octants: &mut [u32], s: Sample) -> Result<(), Refusal>
     requires { (Sound current (pair samples.old octants.old)) × (codes_fit s.colour ≡ true) }
     ensures { FollowsAll (Add s) (tables_lent samples octants) (changed_answer result) (tables_left samples octants) }
 {
     let n = count_of(samples) as usize;
-    let known = row_of(samples, n, s.tag) < n;
+    let known = row_of(samples, n, s.tag).is_some();
     let full = sample_rows(samples.len()) <= n;
     if known {
-        return Changed::Refused(Refusal::KnownTag);
+        return Err(Refusal::KnownTag);
     }
     if full {
-        return Changed::Refused(Refusal::NoRow);
+        return Err(Refusal::NoRow);
     }
     add_in_row(samples, octants, n, s)
 }
 
 // Adds a sample.
-pub fn add(samples: &mut [u32], octants: &mut [u32], s: Sample) -> Changed
+pub fn add(samples: &mut [u32], octants: &mut [u32], s: Sample) -> Result<(), Refusal>
     ensures { Meets (Change (Add s)) (tables_lent samples octants) (changed_answer result) (tables_left samples octants) }
 {
     if !long_enough(samples.len(), octants.len()) {
-        return Changed::Refused(Refusal::TooShort);
+        return Err(Refusal::TooShort);
     }
     if !check(samples, octants) {
-        return Changed::Refused(Refusal::Unsound);
+        return Err(Refusal::Unsound);
     }
     if !codes_fit(s.colour) {
-        return Changed::Refused(Refusal::Code);
+        return Err(Refusal::Code);
     }
     add_coded(samples, octants, s)
 }

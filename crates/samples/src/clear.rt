@@ -4,23 +4,21 @@ ghost use Rattle.model.specs.Machine.{Clear};
 ghost use Rattle.model.specs.Meets.{Meets};
 ghost use Rattle.samples.specs.Answers.{changed_answer};
 
-use crate::answers::Changed;
 use colour::Settings;
 use colour::refusal::Refusal;
 use octree::tables::write;
 use words::layout::{long_enough, settings_fit};
 
 // Empties the set and gives it settings, whatever words the tables held.
-pub fn clear(samples: &mut [u32], octants: &mut [u32], settings: Settings) -> Changed
+pub fn clear(samples: &mut [u32], octants: &mut [u32], settings: Settings) -> Result<(), Refusal>
     ensures { Meets (Clear settings) (tables_lent samples octants) (changed_answer result) (tables_left samples octants) }
 {
     if !long_enough(samples.len(), octants.len()) {
-        return Changed::Refused(Refusal::TooShort);
+        return Err(Refusal::TooShort);
     }
     if !settings_fit(settings) {
-        return Changed::Refused(Refusal::Bucket);
+        return Err(Refusal::Bucket);
     }
-    let none = [0u64; 1];
-    write(samples, octants, settings, &none[..0]);
-    Changed::Done
+    write(samples, octants, settings, &[]);
+    Ok(())
 }

@@ -2,22 +2,19 @@
 ghost use Rattle.std.specs.Prelude.{◌≤◌, ◌≡◌, length};
 ghost use Rattle.model.specs.Layout.{current, sample_rows};
 ghost use Rattle.words.specs.Rows.{first_samples};
-ghost use Rattle.samples.specs.Steps.{row_of_tag};
+ghost use Rattle.samples.specs.Steps.{row_found};
 
-use words::layout::sample;
+use words::layout::tag as tag_of;
 
-// The row of the sample with a tag among the first n rows; n where there is none.
-pub fn row_of(samples: &[u32], n: usize, tag: u32) -> usize
+// The row of the sample with a tag among the first n rows, if there is one.
+pub fn row_of(samples: &[u32], n: usize, tag: u32) -> Option<usize>
     requires { n ≤ sample_rows current (length samples.now) }
-    ensures { result ≡ row_of_tag tag (first_samples current samples.now n) }
+    ensures { result ≡ row_found tag (first_samples current samples.now n) }
 {
-    let mut i = 0;
-    while i < n {
-        let s = sample(samples, i);
-        if s.tag == tag {
-            return i;
+    for row in 0..n {
+        if tag_of(samples, row) == tag {
+            return Some(row);
         }
-        i += 1;
     }
-    n
+    None
 }

@@ -10,15 +10,14 @@ ghost use Rattle.model.specs.Meets.{Meets};
 ghost use Rattle.samples.specs.Answers.{loaded_answer};
 ghost use Rattle.samples.specs.Steps.{FollowsAll, Acceptable, Longest, Stopped};
 
-use crate::answers::Loaded;
+use crate::answers::Stop;
 use crate::find::row_of;
 use crate::rebuild::{acceptable, rebuild};
 use crate::rows::put_lines;
 use colour::Settings;
 use colour::refusal::Refusal;
 use octree::tables::check;
-use sheet::header::{Header, line_at, read_header};
-use sheet::line::Reading;
+use sheet::header::{line_at, read_header};
 use words::layout::{count as count_of, long_enough, sample_rows, settings as settings_of};
 
 // The most of the first rows, from `low` to `high`, that are a set which fits. As samples are added tags stay known and octants do not
@@ -45,32 +44,45 @@ fn longest(samples: &[u32], octants: usize, settings: Settings, low: usize, high
 }
 
 // Why a load ends at line `taken`, with n samples in the set: the first no of 12, 5 and 6 there, else 7; or that the sheet ends.
-fn stopped(samples: &[u32], n: usize, sheet: &[u8], lines: usize, taken: usize) -> Loaded
+fn stopped(
+    samples: &[u32],
+    n: usize,
+    sheet: &[u8],
+    lines: usize,
+    taken: usize,
+) -> Result<u32, Stop>
     requires { (n ≤ sample_rows current (length samples.now)) × (taken ≤ n) × (taken ≤ lines)
         × (line_start lines ≤ length sheet.now) }
     ensures { Stopped n samples.now sheet.now lines taken result }
 {
     let so_far = taken as u32;
     if lines <= taken {
-        return Loaded::All(so_far);
+        return Ok(so_far);
     }
-    let Reading::Good(line) = line_at(sheet, taken) else {
-        return Loaded::Refused(Refusal::Line, so_far);
+    let Ok(line) = line_at(sheet, taken) else {
+        return Err(Stop {
+            refusal: Refusal::Line,
+            taken: so_far,
+        });
     };
-    let known = row_of(samples, n, line.sample.tag) < n;
+    let known = row_of(samples, n, line.sample.tag).is_some();
     let full = sample_rows(samples.len()) <= n;
-    if known {
-        return Loaded::Refused(Refusal::KnownTag, so_far);
-    }
-    if full {
-        return Loaded::Refused(Refusal::NoRow, so_far);
-    }
-    Loaded::Refused(Refusal::NoOctants, so_far)
+    let refusal = if known {
+        Refusal::KnownTag
+    } else if full {
+        Refusal::NoRow
+    } else {
+        Refusal::NoOctants
+    };
+    Err(Stop {
+        refusal,
+        taken: so_far,
+    })
 }
 
 // Takes the lines of a sheet with a good header, on sound tables. All that can be rows become rows, and one tree is built: that of the
 // longest run of them that is a set which fits.
-fn load_lines(samples: &mut [u32], octants: &mut [u32], sheet: &[u8], lines: usize) -> Loaded
+fn load_lines(samples: &mut [u32], octants: &mut [u32], sheet: &[u8], lines: usize) -> Result<u32, Stop>
     requires { (Sound current (pair samples.old octants.old)) × (line_count sheet.now ≡ some lines) }
     ensures { FollowsAll (Load sheet.now) (tables_lent samples octants)
         (loaded_answer result) (tables_left samples octants) }
@@ -81,23 +93,21 @@ fn load_lines(samples: &mut [u32], octants: &mut [u32], sheet: &[u8], lines: usi
     let kept = longest(samples, octants.len(), settings, n, n + put);
     let taken = kept - n;
     let answer = stopped(samples, kept, sheet, lines, taken);
-    rebuild(samples, octants, settings, kept);
+    let _ = rebuild(samples, octants, settings, kept);
     answer
 }
 
 // Loads a sheet.
-pub fn load(samples: &mut [u32], octants: &mut [u32], sheet: &[u8]) -> Loaded
+pub fn load(samples: &mut [u32], octants: &mut [u32], sheet: &[u8]) -> Result<u32, Stop>
     ensures { Meets (Change (Load sheet.now)) (tables_lent samples octants)
         (loaded_answer result) (tables_left samples octants) }
 {
     if !long_enough(samples.len(), octants.len()) {
-        return Loaded::Refused(Refusal::TooShort, 0);
+        return Err(Stop::from(Refusal::TooShort));
     }
     if !check(samples, octants) {
-        return Loaded::Refused(Refusal::Unsound, 0);
+        return Err(Stop::from(Refusal::Unsound));
     }
-    let Header::Lines(lines) = read_header(sheet) else {
-        return Loaded::Refused(Refusal::Header, 0);
-    };
+    let lines = read_header(sheet)?;
     load_lines(samples, octants, sheet, lines)
 }

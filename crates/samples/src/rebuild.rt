@@ -2,14 +2,13 @@
 ghost use Rattle.std.specs.Prelude.{◌≤◌, true, ◌↔◌, ◌≡◌, length};
 ghost use Rattle.model.specs.Layout.{current, sample_rows};
 ghost use Rattle.model.specs.Tables.{tables_lent, tables_left};
-ghost use Rattle.samples.specs.Answers.{changed_number};
+ghost use Rattle.colour.specs.Refusal.{answer_number};
 ghost use Rattle.samples.specs.Rebuilding.{room_asked, codes_asked, Rebuilt, Space, Entered};
 ghost use Rattle.samples.specs.Steps.{Acceptable};
 
-use crate::answers::Changed;
 use colour::Settings;
 use colour::refusal::Refusal;
-use octree::tables::{Fit, judge, write};
+use octree::tables::{judge, write};
 use order::entry::fill;
 use order::tags::all_apart;
 use words::layout::MOST_SAMPLES;
@@ -21,16 +20,14 @@ fn write_fitting(
     settings: Settings,
     entries: &mut [u64],
     scratch: &mut [u64],
-) -> Changed
+) -> Result<(), Refusal>
     requires { Entered samples.old octants.old entries.old (length scratch.old) }
     ensures { Rebuilt (room_asked settings (length entries.old) (tables_lent samples octants))
-        settings (length entries.old) (tables_lent samples octants) (changed_number result) (tables_left samples octants) }
+        settings (length entries.old) (tables_lent samples octants) (answer_number result) (tables_left samples octants) }
 {
-    let Fit::Fits(_) = judge(entries, scratch, settings, samples.len(), octants.len()) else {
-        return Changed::Refused(Refusal::NoOctants);
-    };
+    judge(entries, scratch, settings, samples.len(), octants.len())?;
     write(samples, octants, settings, entries);
-    Changed::Done
+    Ok(())
 }
 
 // The same, for the samples in the first rows, as many as there are places for entries.
@@ -40,22 +37,20 @@ fn rebuild_rows(
     settings: Settings,
     entries: &mut [u64],
     scratch: &mut [u64],
-) -> Changed
+) -> Result<(), Refusal>
     requires { Space samples.old octants.old (length entries.old) (length scratch.old) }
     ensures { Rebuilt (codes_asked settings (length entries.old) (tables_lent samples octants))
-        settings (length entries.old) (tables_lent samples octants) (changed_number result) (tables_left samples octants) }
+        settings (length entries.old) (tables_lent samples octants) (answer_number result) (tables_left samples octants) }
 {
-    if !fill(samples, entries) {
-        return Changed::Refused(Refusal::Code);
-    }
+    fill(samples, entries)?;
     write_fitting(samples, octants, settings, entries, scratch)
 }
 
 // Writes the tables of the samples in the first n rows; or refuses by the first no of 4 and 7, and then nothing is written.
-pub fn rebuild(samples: &mut [u32], octants: &mut [u32], settings: Settings, n: usize) -> Changed
+pub fn rebuild(samples: &mut [u32], octants: &mut [u32], settings: Settings, n: usize) -> Result<(), Refusal>
     requires { Space samples.old octants.old n 4096 }
     ensures { Rebuilt (codes_asked settings n (tables_lent samples octants))
-        settings n (tables_lent samples octants) (changed_number result) (tables_left samples octants) }
+        settings n (tables_lent samples octants) (answer_number result) (tables_left samples octants) }
 {
     let mut entries = [0u64; MOST_SAMPLES];
     let mut scratch = [0u64; MOST_SAMPLES];
@@ -74,16 +69,9 @@ fn rows_accepted(
         × (length entries.old ≤ length scratch.old) }
     ensures { (result ≡ true) ↔ (Acceptable settings samples.now octants (length entries.old)) }
 {
-    if !all_apart(samples, entries, scratch) {
-        return false;
-    }
-    if !fill(samples, entries) {
-        return false;
-    }
-    let Fit::Fits(_) = judge(entries, scratch, settings, samples.len(), octants) else {
-        return false;
-    };
-    true
+    all_apart(samples, entries, scratch)
+        && fill(samples, entries).is_ok()
+        && judge(entries, scratch, settings, samples.len(), octants).is_ok()
 }
 
 // The same for the samples in the first n rows.

@@ -6,7 +6,6 @@ ghost use Rattle.words.specs.Rows.{first_samples};
 ghost use Rattle.samples.specs.Steps.{without_row, LinesPut};
 
 use sheet::header::line_at;
-use sheet::line::Reading;
 use words::layout::{put_sample, sample, sample_rows};
 
 // Moves the samples after a row, of n, one row up, over the one that stands there.
@@ -15,11 +14,9 @@ pub fn close_row(samples: &mut [u32], row: usize, n: usize)
     ensures { first_samples current samples.new (n - 1)
         ≡ without_row row (first_samples current samples.old n) }
 {
-    let mut i = row + 1;
-    while i < n {
+    for i in row + 1..n {
         let s = sample(samples, i);
         put_sample(samples, i - 1, s);
-        i += 1;
     }
 }
 
@@ -29,16 +26,14 @@ pub fn put_lines(samples: &mut [u32], n: usize, sheet: &[u8], lines: usize) -> u
     ensures { LinesPut n samples.old sheet.now lines result samples.new }
 {
     let room = sample_rows(samples.len()) - n;
-    let mut k = 0;
-    while k < lines {
+    for k in 0..lines {
         if room <= k {
             return k;
         }
-        let Reading::Good(line) = line_at(sheet, k) else {
+        let Ok(line) = line_at(sheet, k) else {
             return k;
         };
         put_sample(samples, n + k, line.sample);
-        k += 1;
     }
-    k
+    lines
 }

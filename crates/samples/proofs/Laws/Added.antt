@@ -27,7 +27,7 @@ use Rattle.words.proofs.Laws.Layout.Put.{empty, put_length, put_snoc, put_back}
 use Rattle.words.proofs.Laws.Layout.Samples.{samples_length}
 use Rattle.octree.proofs.Laws.Tables.Check.{sample_length_lem, octant_length_lem, rest_zero}
 use Rattle.samples.specs.Answers.{changed_answer}
-use Rattle.samples.specs.declared.answers.Changed.TheVariants as C
+use Rattle.std.specs.Prelude.{Result, Ok, Err}
 use Rattle.samples.specs.Rebuilding.{codes_asked, Rebuilt}
 use Rattle.samples.specs.Steps.{FollowsAll, holding, Adding, row_of_tag}
 use Rattle.samples.proofs.Laws.Meets.{refused_follows, accepted_follows}
@@ -90,7 +90,7 @@ module _ (ws os : List ℕ) (s : Sample) where
   abbrev t : Tables
   t = pair ws os
 
-  pub codes_refused : codes_fit s.colour ≡ false → FollowsAll (Add s) t (changed_answer (C.Refused R.Code)) t
+  pub codes_refused : codes_fit s.colour ≡ false → FollowsAll (Add s) t (changed_answer (Err R.Code)) t
   unfolding changed_answer
   codes_refused out m shows = refused_follows m (Add s) t 4 (says_4 m s out) (λ z. omega (arith, z)) shows.words
 
@@ -99,12 +99,12 @@ module _ (ws os : List ℕ) (s : Sample) where
     known : (m : Machine) → Shows current m t → has_tag s.tag m.set.samples ≡ ltb row n
     known m shows = known_below ws os n counted m shows s.tag row placed
 
-    pub tag_refused : row < n → FollowsAll (Add s) t (changed_answer (C.Refused R.KnownTag)) t
+    pub tag_refused : row < n → FollowsAll (Add s) t (changed_answer (Err R.KnownTag)) t
     unfolding changed_answer
     tag_refused h m shows = refused_follows m (Add s) t 5 (says_5 m s codes (known m shows ∙ lt-ltb row n h)) (λ z. omega (arith, z)) shows.words
 
     module _ (new : n ≤ row) where
-      pub row_refused : sample_rows current (length ws) ≤ n → FollowsAll (Add s) t (changed_answer (C.Refused R.NoRow)) t
+      pub row_refused : sample_rows current (length ws) ≤ n → FollowsAll (Add s) t (changed_answer (Err R.NoRow)) t
       unfolding changed_answer
       row_refused full m shows =
           let many : length m.set.samples ≡ n =
@@ -173,7 +173,7 @@ module _ (s : Sample) (n : ℕ) (ws os : List ℕ) (h : Adding s n ws os) (x : S
     rebuilt = rebuilt_as x (n + 1) us put os r (pair ws' os') is-put told
 
     -- Where the tree fits, its tables are the machine's with the sample.
-    pub sample_added : r ≡ 0 → FollowsAll (Add s) (pair ws os) (changed_answer C.Done) (pair ws' os')
+    pub sample_added : r ≡ 0 → FollowsAll (Add s) (pair ws os) (changed_answer (Ok tt)) (pair ws' os')
     unfolding changed_answer
     sample_added done m shows =
         add_accepted m s (pair ws' os')
@@ -184,7 +184,7 @@ module _ (s : Sample) (n : ℕ) (ws os : List ℕ) (h : Adding s n ws os) (x : S
 
     -- Where it does not, the row is emptied again.
     pub octants_refused : (vs : List ℕ) → vs ≡ with_sample current ws' n empty → (r ≡ 0 → ⊥)
-        → FollowsAll (Add s) (pair ws os) (changed_answer (C.Refused R.NoOctants)) (pair vs os')
+        → FollowsAll (Add s) (pair ws os) (changed_answer (Err R.NoOctants)) (pair vs os')
     unfolding changed_answer
     octants_refused vs emptied ne m shows =
         refused_follows m (Add s) (pair vs os') 7

@@ -14,9 +14,8 @@ use Rattle.model.specs.Sound.{Sound, long_enough}
 use Rattle.model.specs.Meets.{Refused, TableMeets, Follows}
 use Rattle.model.proofs.Machine.Step.{step_accepted, step_refused}
 use Rattle.octree.proofs.Laws.Tables.Check.{too_short}
-use Rattle.samples.specs.declared.answers.Changed.{Changed}
-use Rattle.samples.specs.declared.answers.Changed.TheVariants as C
-use Rattle.samples.specs.Answers.{changed_number}
+use Rattle.std.specs.Prelude.{Result, Ok, Err}
+use Rattle.colour.specs.Refusal.{answer_number}
 use Rattle.samples.specs.Steps.{FollowsAll}
 
 -- Tables that show a machine are long enough.
@@ -56,8 +55,8 @@ module _ (c : Changing) (t : Tables) (a : Answer) where
       }
 
 -- A refusal has a number.
-pub changed_refused : (r : Changed) (q : Refusal) → r ≡ C.Refused q → changed_number r ≡ 0 → ⊥
-changed_refused r q e z = refusal_numbered q (sym (ap changed_number e) ∙ z)
+pub changed_refused : (r : Result (Unit {0}) Refusal) (q : Refusal) → r ≡ Err q → answer_number r ≡ 0 → ⊥
+changed_refused r q e z = refusal_numbered q (sym (ap answer_number e) ∙ z)
 
 -- A call that answers a number alone. By the first no of its questions nothing changes; without one the set is the one that acceptance gives.
 module _ (m : Machine) (c : Changing) (t' : Tables) where

@@ -21,7 +21,7 @@ use Rattle.model.proofs.Machine.Valid.{removed_valid}
 use Rattle.words.specs.Rows.{count_in, settings_in, samples_from}
 use Rattle.words.proofs.Laws.Layout.Samples.{samples_length}
 use Rattle.samples.specs.Answers.{changed_answer}
-use Rattle.samples.specs.declared.answers.Changed.TheVariants as C
+use Rattle.std.specs.Prelude.{Result, Ok, Err}
 use Rattle.samples.specs.Rebuilding.{codes_asked, Rebuilt}
 use Rattle.samples.specs.Steps.{FollowsAll, holding, Acceptable, row_of_tag, without_row}
 use Rattle.samples.proofs.Laws.Meets.{refused_follows, accepted_follows}
@@ -76,14 +76,14 @@ module _ (ws os : List ℕ) (x : Settings) (n row t : ℕ) (settings : x ≡ set
         rows_acceptable ws os m shows x settings ws' k (others m t) left v.tags_distinct v.in_range v.octants_fit
 
   -- Question 8.
-  pub unknown_tag : n ≤ row → FollowsAll (Remove t) (pair ws os) (changed_answer (C.Refused R.UnknownTag)) (pair ws os)
+  pub unknown_tag : n ≤ row → FollowsAll (Remove t) (pair ws os) (changed_answer (Err R.UnknownTag)) (pair ws os)
   unfolding changed_answer
   unknown_tag h m shows = unknown_follows m t (pair ws os) (known m shows ∙ le-ltb row n h) shows.words
 
   -- A tag that is known: rows closed, then rebuilt.
   pub tag_removed : (ws' : List ℕ) (r : ℕ) (t' : Tables) → row < n → length ws' ≡ length ws
       → samples_from current ws' 0 (n - 1) ≡ without_row row (samples_from current ws 0 n)
-      → Rebuilt (codes_asked x (n - 1) (pair ws' os)) x (n - 1) (pair ws' os) r t' → FollowsAll (Remove t) (pair ws os) (changed_answer C.Done) t'
+      → Rebuilt (codes_asked x (n - 1) (pair ws' os)) x (n - 1) (pair ws' os) r t' → FollowsAll (Remove t) (pair ws os) (changed_answer (Ok tt)) t'
   unfolding changed_answer
   tag_removed ws' r t' h long closed told m shows =
       let left = closed ∙ others_left m shows h in

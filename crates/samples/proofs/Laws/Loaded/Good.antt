@@ -1,7 +1,7 @@
 -- The samples of the good lines that find a row: how many there are, and that their codes are in range.
 use Prim.Native.Nat.{ℕ, zero, suc, ◌≤◌}
 use mathlib.Core.List.{List, [], ◌∷◌}
-use mathlib.Core.Option.{Option, none, some}
+use Rattle.std.specs.Prelude.{Option, None, Some}
 use mathlib.Core.Path.{◌≡◌, refl}
 use native.Mathlib.Omega.{arith}
 use lib.ListN.{length}
@@ -16,7 +16,7 @@ unfolding good_samples
 good_end zero = refl
 good_end (suc room) = refl
 
-pub good_bad : (room : ℕ) (rest : List (Option Line)) → good_samples room (none ∷ rest) ≡ []
+pub good_bad : (room : ℕ) (rest : List (Option Line)) → good_samples room (None ∷ rest) ≡ []
 unfolding good_samples
 good_bad zero rest = refl
 good_bad (suc room) rest = refl
@@ -26,8 +26,8 @@ pub good_few : (room : ℕ) (lines : List (Option Line)) → (length (good_sampl
 unfolding good_samples
 good_few zero lines = (omega arith, omega arith)
 good_few (suc room) [] = (omega arith, omega arith)
-good_few (suc room) (none ∷ rest) = (omega arith, omega arith)
-good_few (suc room) (some l ∷ rest) =
+good_few (suc room) (None ∷ rest) = (omega arith, omega arith)
+good_few (suc room) (Some l ∷ rest) =
     let few = good_few room rest in
     (omega (arith, few.0), omega (arith, few.1))
 
@@ -36,5 +36,5 @@ pub good_range : (room : ℕ) (lines : List (Option Line)) → AllRanged lines �
 unfolding good_samples CodesInRange AllRanged Ranged
 good_range zero lines h = tt
 good_range (suc room) [] h = tt
-good_range (suc room) (none ∷ rest) h = tt
-good_range (suc room) (some l ∷ rest) h = (h.0.codes, good_range room rest h.1)
+good_range (suc room) (None ∷ rest) h = tt
+good_range (suc room) (Some l ∷ rest) h = (h.0.codes, good_range room rest h.1)

@@ -2,7 +2,7 @@
 use Prim.Native.Nat.{ℕ, zero, suc, ◌+◌, ◌-◌, ◌≤◌, ◌<◌}
 use mathlib.Core.Bool.{Bool, true, false, not}
 use mathlib.Core.List.{List, [], ◌∷◌, ◌++◌, append-nil}
-use mathlib.Core.Option.{Option, none, some}
+use Rattle.std.specs.Prelude.{Option, None, Some}
 use mathlib.Core.Path.{◌≡◌, refl, ap, ◌∙◌}
 use native.Mathlib.Nat.{add-zero, add-suc, suc-add}
 use native.Mathlib.Omega.{arith}
@@ -65,7 +65,7 @@ module _ (m : Machine) where
     more = xs ++ (l.sample ∷ [])
 
     abbrev number : ℕ
-    number = first_no (line_questions (holding m xs) (some l))
+    number = first_no (line_questions (holding m xs) (Some l))
 
     accepted : length xs < rows → Fits more → number ≡ 0
     unfolding line_questions new_questions fit_questions first_no added with_samples with_set
@@ -74,7 +74,7 @@ module _ (m : Machine) where
 
     -- Where it can't be taken, the number is the one that a load stops with, and not 0.
     refused : (rest : List (Option Line)) → Fits xs → (length xs < rows → Fits more → ⊥)
-        → (number ≡ stop_number xs rows (some l ∷ rest)) × (eqb number 0 ≡ false)
+        → (number ≡ stop_number xs rows (Some l ∷ rest)) × (eqb number 0 ≡ false)
     unfolding line_questions new_questions fit_questions added with_samples with_set stop_number first_no
     refused rest f never =
         rw (row_left xs l.sample rows)
@@ -85,13 +85,13 @@ module _ (m : Machine) where
 
     -- So a load goes on after it, or ends before it.
     line_taken : (k : ℕ) (rest : List (Option Line)) → length xs < rows → Fits more
-        → load_lines (holding m xs) k (some l ∷ rest) ≡ load_lines (holding m more) (suc k) rest
+        → load_lines (holding m xs) k (Some l ∷ rest) ≡ load_lines (holding m more) (suc k) rest
     unfolding load_lines added with_samples with_set
     line_taken k rest h f = rw (accepted h f, load_lines)
 
     line_stops : (k : ℕ) (rest : List (Option Line)) → Fits xs → (length xs < rows → Fits more → ⊥)
-        → load_lines (holding m xs) k (some l ∷ rest)
-        ≡ record { answer = load_answer (stop_number xs rows (some l ∷ rest)) k; set = with_samples m.set xs }
+        → load_lines (holding m xs) k (Some l ∷ rest)
+        ≡ record { answer = load_answer (stop_number xs rows (Some l ∷ rest)) k; set = with_samples m.set xs }
     unfolding loaded load_lines with_samples with_set
     line_stops k rest f never =
         let r = refused rest f never in
@@ -107,9 +107,9 @@ module _ (m : Machine) where
       → load_lines (holding m xs) k lines ≡ ended xs k lines
   unfolding ended loaded load_lines good_samples stop_number first_no with_samples with_set line_questions
   stops_at_once [] xs k room e f never = refl
-  stops_at_once (none ∷ rest) xs k room e f never = refl
-  stops_at_once (some l ∷ rest) xs k zero e f never = line_stops xs l k rest f (λ h _. omega arith)
-  stops_at_once (some l ∷ rest) xs k (suc room) e f never = line_stops xs l k rest f (λ _ g. never (λ z. omega (arith, z)) g)
+  stops_at_once (None ∷ rest) xs k room e f never = refl
+  stops_at_once (Some l ∷ rest) xs k zero e f never = line_stops xs l k rest f (λ h _. omega arith)
+  stops_at_once (Some l ∷ rest) xs k (suc room) e f never = line_stops xs l k rest f (λ _ g. never (λ z. omega (arith, z)) g)
 
   -- A load that takes j good lines after the samples xs, and can't take one more.
   pub load_stops : (j : ℕ) (lines : List (Option Line)) (xs : List Sample) (k room : ℕ) → room ≡ rows - length xs
@@ -121,10 +121,10 @@ module _ (m : Machine) where
       rw (append-nil xs, add-zero k) (stops_at_once lines xs k room e (front_fits xs [] f) never)
   load_stops (suc j) [] xs k zero e most f never = absurd (omega arith)
   load_stops (suc j) [] xs k (suc room) e most f never = absurd (omega arith)
-  load_stops (suc j) (none ∷ rest) xs k zero e most f never = absurd (omega arith)
-  load_stops (suc j) (none ∷ rest) xs k (suc room) e most f never = absurd (omega arith)
-  load_stops (suc j) (some l ∷ rest) xs k zero e most f never = absurd (omega arith)
-  load_stops (suc j) (some l ∷ rest) xs k (suc room) e most f never =
+  load_stops (suc j) (None ∷ rest) xs k zero e most f never = absurd (omega arith)
+  load_stops (suc j) (None ∷ rest) xs k (suc room) e most f never = absurd (omega arith)
+  load_stops (suc j) (Some l ∷ rest) xs k zero e most f never = absurd (omega arith)
+  load_stops (suc j) (Some l ∷ rest) xs k (suc room) e most f never =
       let ys : List Sample = good_samples room rest in
       let g : Fits (more xs l ++ take j ys) = rw (append_snoc xs l.sample (take j ys)) f in
       rw (← append_snoc xs l.sample (take j ys), add-suc k j, ← suc-add k j)

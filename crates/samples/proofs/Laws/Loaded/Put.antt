@@ -1,7 +1,7 @@
 -- `put_lines`: the rows so far, and the good lines that are left, are the rows that it leaves.
 use Prim.Native.Nat.{ℕ, suc, ◌+◌, ◌-◌, ◌≤◌, ◌<◌}
 use mathlib.Core.List.{List, [], ◌∷◌, ◌++◌, append-nil}
-use mathlib.Core.Option.{none, some}
+use Rattle.std.specs.Prelude.{None, Some}
 use mathlib.Core.Path.{◌≡◌, refl, sym, ap, ◌∙◌}
 use native.Mathlib.Nat.{add-zero, add-suc, sub-zero}
 use native.Mathlib.Numerals.{add-one}
@@ -61,7 +61,7 @@ module _ {ws : List ℕ} {n : ℕ} {sheet : List ℕ} {lines room : ℕ} {ws' : 
   pub no_line : lines ≤ k → LinesPut n ws sheet lines k ws'
   no_line end = ends (ap (good_samples (room - k)) (none_left sheet k lines end) ∙ good_end (room - k))
 
-  pub bad_line : k < lines → none ≡ line_of (line_part sheet k) → LinesPut n ws sheet lines k ws'
+  pub bad_line : k < lines → None ≡ line_of (line_part sheet k) → LinesPut n ws sheet lines k ws'
   bad_line more bad = ends (rw (next_left sheet k lines more, ← bad) (good_bad (room - k) _))
 
   -- Where a row is left, it is the next.
@@ -69,7 +69,7 @@ module _ {ws : List ℕ} {n : ℕ} {sheet : List ℕ} {lines room : ℕ} {ws' : 
   next_row left = omega (arith, h.all_rows, ap (sample_rows current) h.same_length)
 
   -- A good line is put in it.
-  pub puts : (l : Line) → k < lines → k < room → some l ≡ line_of (line_part sheet k)
+  pub puts : (l : Line) → k < lines → k < room → Some l ≡ line_of (line_part sheet k)
       → PutSoFar ws n sheet lines room (with_sample current ws' (n + k) l.sample) (k + 1)
   unfolding good_samples
   puts l more left good =

@@ -2,7 +2,7 @@
 -- which fits is kept, its tables are built, and the load says why it ends there.
 use Prim.Native.Nat.{ℕ, suc, ◌+◌, ◌-◌, ◌≤◌}
 use mathlib.Core.List.{List, [], ◌++◌, append-nil}
-use mathlib.Core.Option.{none, some}
+use Rattle.std.specs.Prelude.{None, Some}
 use mathlib.Core.Path.{◌≡◌, sym, ap, ap₂, ◌∙◌, subst}
 use native.Mathlib.Nat.{zero-add, add-zero, add-suc}
 use native.Mathlib.Omega.{arith}
@@ -25,8 +25,7 @@ use Rattle.model.proofs.Machine.Step.{step_accepted}
 use Rattle.words.specs.Rows.{count_in, settings_in, samples_from}
 use Rattle.words.proofs.Laws.Layout.Samples.{samples_length, samples_take}
 use Rattle.octree.proofs.Laws.Tables.Check.{sample_length_lem, count_shown}
-use Rattle.samples.specs.declared.answers.Loaded.{Loaded}
-use Rattle.samples.specs.declared.answers.Loaded.TheVariants as L
+use Rattle.std.specs.Prelude.{Ok, Err}
 use Rattle.samples.specs.Answers.{loaded_answer}
 use Rattle.samples.specs.Rebuilding.{codes_asked, Rebuilt, Space}
 use Rattle.samples.specs.Steps.{FollowsAll, Acceptable, Longest, LinesPut, Stopped, good_samples, stop_number}
@@ -38,11 +37,11 @@ use Rattle.samples.proofs.Laws.Loaded.Left.{lines_length, lines_after}
 use Rattle.samples.proofs.Laws.Loaded.Lines.{Fits, ended, load_stops}
 
 -- The lines of a sheet with a good header are within it.
-pub sheet_whole : (sheet : List ℕ) (lines : ℕ) → line_count sheet ≡ some lines → line_start lines ≤ length sheet
+pub sheet_whole : (sheet : List ℕ) (lines : ℕ) → line_count sheet ≡ Some lines → line_start lines ≤ length sheet
 sheet_whole sheet lines e = omega (arith, (formed sheet lines e).whole)
 
 -- Question 11: without one nothing changes.
-pub not_headed : (t : Tables) (sheet : List ℕ) → none ≡ line_count sheet → FollowsAll (Load sheet) t (loaded_answer (L.Refused R.Header 0)) t
+pub not_headed : (t : Tables) (sheet : List ℕ) → None ≡ line_count sheet → FollowsAll (Load sheet) t (loaded_answer (Err (record { refusal = R.Header; taken = 0 }))) t
 unfolding loaded_answer load_answer plain nearest_answer questions present
 not_headed t sheet e m shows =
     refused_follows m (Load sheet) t 11 (first_no_lem 11 (present (line_count sheet)) [] (rw (← e))) (λ z. omega (arith, z)) shows.words
@@ -115,7 +114,7 @@ module _ (ws os sheet : List ℕ) (lines : ℕ) (x : Settings) (n put : ℕ) (ws
         f.octants_fit
 
     -- So the machine takes as many lines as are acceptable.
-    machine_takes : line_count sheet ≡ some lines → (j : ℕ) → j ≤ put → Acceptable x ws' (length os) (n + j)
+    machine_takes : line_count sheet ≡ Some lines → (j : ℕ) → j ≤ put → Acceptable x ws' (length os) (n + j)
         → ((j ≡ put → ⊥) → Acceptable x ws' (length os) (n + suc j) → ⊥)
         → step m (Change (Load sheet)) ≡ ended m (with_more j) j (lines_from sheet j (lines - j))
     unfolding questions accepted lines_of lines_by present with_samples with_set
@@ -129,7 +128,7 @@ module _ (ws os sheet : List ℕ) (lines : ℕ) (x : Settings) (n put : ℕ) (ws
         (λ ne f. never (λ z. ne (z ∙ told.many)) (fit_more (suc j) (omega (arith, h, ne, told.many)) f))
         ∙ ap₂ (ended m (with_more j)) (zero-add j) (lines_after sheet j 0 lines few ∙ ap (λ (k : ℕ). lines_from sheet k (lines - j)) (zero-add j)))
 
-  module _ (long : length ws' ≡ length ws) (header : line_count sheet ≡ some lines) where
+  module _ (long : length ws' ≡ length ws) (header : line_count sheet ≡ Some lines) where
     -- What the calls after it ask: that of the longest run, of why it ends, and of the rebuilding.
     module _ (sound : Sound current (pair ws os)) where
       abbrev m₀ : Machine

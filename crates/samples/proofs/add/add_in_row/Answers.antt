@@ -4,7 +4,7 @@ use native.Mathlib.Omega.{arith}
 use lib.ListN.{length}
 use Rattle.model.specs.Layout.{current, sample_rows}
 use Rattle.words.proofs.Laws.Layout.Places.{rows_few}
-use Rattle.samples.specs.Answers.{changed_number}
+use Rattle.colour.specs.Refusal.{answer_number}
 use Rattle.samples.proofs.Laws.Meets.{changed_refused}
 use Rattle.samples.proofs.Laws.Added.{sample_added, octants_refused}
 use Rattle.samples.proofs.Laws.Shown.{headers_there, space_for}
@@ -38,4 +38,4 @@ returns-in_default c =
 pub returns : goal.returns
 returns c =
     sample_added c.args.s c.args.n c.args.samples.now c.args.octants.now c.requires _ c.settings-settings.ensures _ c.put_sample.ensures _ _ _
-    c.rebuild.ensures (ap changed_number c.in-Done.is)
+    c.rebuild.ensures (ap answer_number c.in-Done.is)
