@@ -1,22 +1,18 @@
 -- What the functions under the calls ask and promise. No call's own promise cites these.
-use Rattle.std.specs.Prelude.{ℕ, ◌+◌, ◌*◌, ◌%◌, ◌≤◌, ◌<◌, ◌^◌, Bool, true, false, List, [], ◌∷◌, ◌++◌, ◌≡◌, eqb, leb, length, get_or, take}
-use Rattle.std.proofs.Math.Option.{Option, none, some}
+use Rattle.std.specs.Prelude.{ℕ, ◌+◌, ◌*◌, ◌%◌, ◌≤◌, ◌<◌, ◌^◌, true, false, List, [], ◌∷◌, ◌++◌, ◌≡◌, eqb, leb, length, get_or, take, Option, Some, Result, Ok, Err}
 use Rattle.colour.specs.declared.Sample.{Sample}
 use Rattle.colour.specs.declared.Settings.{Settings}
 use Rattle.colour.specs.Octant.{depths}
 use Rattle.colour.specs.Question.{Question, asks, first_no}
+use Rattle.colour.specs.declared.refusal.Refusal.{Refusal}
 use Rattle.colour.specs.Refusal.{refusal_number}
 use Rattle.model.specs.Lists.{keep, padded}
 use Rattle.model.specs.SampleSet.{Placed, placed_from, order_of, octants_of, octants}
 use Rattle.model.specs.Layout.{Next, current, sample_header, octant_header, octant_width, sample_rows, octant_rows}
-use Rattle.model.specs.Tables.{next_row, header_words, sample_rows_of, octant_rows_of, pair, tables_for}
+use Rattle.model.specs.Tables.{first_row, last_row, next_row, header_words, sample_rows_of, octant_rows_of, pair, tables_for}
 use Rattle.model.specs.Sound.{Distinct, CodesInRange}
 use Rattle.words.specs.Rows.{sample_field, settings_in, count_in, first_samples, set_of}
 use Rattle.order.specs.Entries.{view, entries_of}
-use Rattle.octree.specs.declared.rows.Compared.{Compared}
-use Rattle.octree.specs.declared.rows.Compared.TheVariants as C
-use Rattle.octree.specs.declared.tables.Fit.{Fit}
-use Rattle.octree.specs.declared.tables.Fit.TheVariants as F
 
 -- A whole list is ordered for a bucket size and a depth left.
 abbrev pub Ordered : ℕ → ℕ → List ℕ → Type 0
@@ -34,24 +30,22 @@ pub record Rooted (b j number : ℕ) (es : List ℕ) (words : ℕ) : Type 0 wher
 abbrev pub rows_of : ℕ → ℕ → ℕ → List ℕ → List ℕ
 rows_of b j number es = octant_rows_of current b j number (view es)
 
+-- An octant's row says the first and the last sample row and the number of its entries, and there is one at least.
+pub record Says (first last count : ℕ) (es : List ℕ) : Type 0 where
+  pub held : 1 ≤ length es
+  pub first_is : first ≡ first_row 0 (view es)
+  pub last_is : last ≡ last_row 0 (view es)
+  pub count_is : count ≡ length es
+
 -- The word for a child of so many samples whose row would be `number`.
 unfoldable pub child_word_of : ℕ → ℕ → ℕ
 child_word_of size number = elim (eqb size 0) [ true ↦ 0 | false ↦ number ]
 
--- How many octant rows were found to be the definition's; none where one differs.
-unfoldable pub compared_answer : Compared → Option ℕ
-compared_answer (C.Same n) = some n
-compared_answer C.Different = none
-
--- The answer by the last row's test, where all below it are right.
-unfoldable pub told_by : Bool → ℕ → Option ℕ
-told_by same n = elim same [ true ↦ some n | false ↦ none ]
-
 -- Comparing says the octant count exactly where the rows are the definition's.
 pub record RowsTold (b j number : ℕ) (es ws : List ℕ) (r : Option ℕ) : Type 0 where
-  pub same : (n : ℕ) → r ≡ some n
+  pub same : (n : ℕ) → r ≡ Some n
       → (n ≡ octants_of b j (view es)) × (take (octant_width current * n) ws ≡ rows_of b j number es)
-  pub complete : take (octant_width current * octants_of b j (view es)) ws ≡ rows_of b j number es → r ≡ some (octants_of b j (view es))
+  pub complete : take (octant_width current * octants_of b j (view es)) ws ≡ rows_of b j number es → r ≡ Some (octants_of b j (view es))
 
 -- How often a row stands in a list.
 unfoldable pub times_row : ℕ → List Placed → ℕ
@@ -81,20 +75,15 @@ fits_rows b es sample_length octant_length =
     ∷ []
 
 -- The paper's number for each answer of the judging function.
-abbrev pub fit_number : Fit → ℕ
-fit_number (F.Fits n) = 0
-fit_number (F.Refused r) = refusal_number r
-
--- The octant count, where it fits.
-unfoldable pub fit_octants : Fit → Option ℕ
-fit_octants (F.Fits n) = some n
-fit_octants (F.Refused r) = none
+abbrev pub fit_number : Result ℕ Refusal → ℕ
+fit_number (Ok n) = 0
+fit_number (Err r) = refusal_number r
 
 -- What a judged list comes to: the number, the octant count where it is 0, and then the entries in their order.
-pub record Judged (b : ℕ) (before after : List ℕ) (sample_length octant_length : ℕ) (r : Fit) : Type 0 where
+pub record Judged (b : ℕ) (before after : List ℕ) (sample_length octant_length : ℕ) (r : Result ℕ Refusal) : Type 0 where
   pub number : fit_number r ≡ first_no (fits_rows b before sample_length octant_length)
-  pub octants : (n : ℕ) → fit_octants r ≡ some n → n ≡ octants_of b depths (view before)
-  pub order : (n : ℕ) → fit_octants r ≡ some n → view after ≡ order_of b depths (view before)
+  pub octants : (n : ℕ) → r ≡ Ok n → n ≡ octants_of b depths (view before)
+  pub order : (n : ℕ) → r ≡ Ok n → view after ≡ order_of b depths (view before)
 
 -- The sample table of a list of samples with settings and an order; the octant table of ordered entries.
 unfoldable pub sample_table_by : ℕ → Settings → List Placed → List Sample → List ℕ

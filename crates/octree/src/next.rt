@@ -15,10 +15,8 @@ pub fn put_all(samples: &mut [u32], ordered: &[u64])
         ≡ first_samples current samples.old (length ordered.now) }
 {
     let mut after = ordered.len() as u32;
-    let mut i = ordered.len();
-    while 0 < i {
-        i -= 1;
-        let row = row_of(ordered[i]);
+    for entry in ordered.iter().rev() {
+        let row = row_of(*entry);
         put_next(samples, row as usize, after);
         after = row;
     }
@@ -30,10 +28,8 @@ pub fn all_are(samples: &[u32], ordered: &[u64]) -> bool
     ensures { (result ≡ true) ↔ (NextsAre (length ordered.now) ordered.now samples.now) }
 {
     let mut after = ordered.len() as u32;
-    let mut i = ordered.len();
-    while 0 < i {
-        i -= 1;
-        let row = row_of(ordered[i]);
+    for entry in ordered.iter().rev() {
+        let row = row_of(*entry);
         if next(samples, row as usize) != after {
             return false;
         }

@@ -11,7 +11,7 @@ ghost use Rattle.octree.specs.Steps.{Ordered, RowsGiven, Judged, Writable, Heade
 ghost use Rattle.octree.specs.Steps.{sample_table_by, octant_table_by};
 
 use crate::next::{all_are, put_all};
-use crate::rows::{Compared, build, compare};
+use crate::rows::{build, compare};
 use colour::Settings;
 use colour::refusal::Refusal;
 use order::entry::fill;
@@ -23,32 +23,26 @@ use words::layout::{
 };
 use words::zeros::{are_zero, clear};
 
-// Whether a list of samples finds rows and its tree finds octant rows, and how many octants that is: questions 6 and 7.
-#[derive(Clone, Copy)]
-pub enum Fit {
-    Fits(u32),
-    Refused(Refusal),
-}
-
-// Judges a list of samples by its entries, for tables of these lengths, and puts the entries in their order.
+// Judges a list of samples by its entries, for tables of these lengths, and puts the entries in their order: whether it finds rows and its tree
+// finds octant rows, and how many octants that is (questions 6 and 7).
 pub fn judge(
     entries: &mut [u64],
     scratch: &mut [u64],
     settings: Settings,
     samples: usize,
     octants: usize,
-) -> Fit
+) -> Result<u32, Refusal>
     requires { (length entries.old ≤ 4096) × (length entries.old ≤ length scratch.old) }
     ensures { Judged settings.bucket entries.old entries.new samples octants result }
 {
     if sample_rows(samples) < entries.len() {
-        return Fit::Refused(Refusal::NoRow);
+        return Err(Refusal::NoRow);
     }
     let found = order(entries, scratch, settings.bucket as usize, DEPTHS);
     if octant_rows(octants) < (found as usize) {
-        return Fit::Refused(Refusal::NoOctants);
+        return Err(Refusal::NoOctants);
     }
-    Fit::Fits(found)
+    Ok(found)
 }
 
 // Writes the sample table of the samples in its first rows, given their entries in their order.
@@ -98,11 +92,8 @@ fn samples_are(samples: &[u32], ordered: &[u64]) -> bool
         ≡ sample_table_by (length samples.now) (settings_in current samples.now) (view ordered.now)
         (first_samples current samples.now (length ordered.now))) }
 {
-    if !all_are(samples, ordered) {
-        return false;
-    }
     let from = sample_start(ordered.len());
-    are_zero(&samples[from..])
+    all_are(samples, ordered) && are_zero(&samples[from..])
 }
 
 // Whether the octant table is that of ordered entries, which come to so many octants.
@@ -117,8 +108,7 @@ fn octants_are(octants: &[u32], bucket: u32, count: u32, ordered: &[u64]) -> boo
         return false;
     }
     let start = octant_start(0);
-    let Compared::Same(used) = compare(ordered, bucket as usize, DEPTHS, 0, &octants[start..])
-    else {
+    let Some(used) = compare(ordered, bucket as usize, DEPTHS, 0, &octants[start..]) else {
         return false;
     };
     let from = octant_start(used);
@@ -137,13 +127,10 @@ fn same_tables(
     ensures { (result ≡ true)
         ↔ (SameTables settings (length entries.old) samples.now octants.now) }
 {
-    let Fit::Fits(count) = judge(entries, scratch, settings, samples.len(), octants.len()) else {
+    let Ok(count) = judge(entries, scratch, settings, samples.len(), octants.len()) else {
         return false;
     };
-    if !samples_are(samples, entries) {
-        return false;
-    }
-    octants_are(octants, settings.bucket, count, entries)
+    samples_are(samples, entries) && octants_are(octants, settings.bucket, count, entries)
 }
 
 // Whether the tables are those of the samples in the first rows, as many as there are places for entries.
@@ -158,13 +145,9 @@ fn hold(
     ensures { (result ≡ true)
         ↔ (Holds settings (length entries.old) samples.now octants.now) }
 {
-    if !all_apart(samples, entries, scratch) {
-        return false;
-    }
-    if !fill(samples, entries) {
-        return false;
-    }
-    same_tables(samples, octants, settings, entries, scratch)
+    all_apart(samples, entries, scratch)
+        && fill(samples, entries).is_ok()
+        && same_tables(samples, octants, settings, entries, scratch)
 }
 
 // The checking call: whether the tables are those of some set. It reads the set off the sample table and compares every word.

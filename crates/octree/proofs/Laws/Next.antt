@@ -1,13 +1,14 @@
 -- Next words along an order.
-use Prim.Native.Nat.{ℕ, suc, ◌-◌, ◌%◌, ◌≤◌, ◌<◌}
+use Prim.Native.Nat.{ℕ, suc, ◌+◌, ◌-◌, ◌%◌, ◌≤◌, ◌<◌}
 use mathlib.Core.Bool.{Bool, true, false}
-use mathlib.Core.List.{List, [], ◌∷◌, ◌++◌}
+use mathlib.Core.List.{List, [], ◌∷◌, ◌++◌, reverse}
 use mathlib.Core.Logic.{◌↔◌}
 use mathlib.Core.Path.{◌≡◌, refl, sym, ap, ◌∙◌}
 use native.Mathlib.Omega.{arith}
 use borrow.Author.Tests.{eqb-true, eqb-false}
 use lib.Dec.{eqb}
 use lib.ListN.{length, get_or, take, drop, set, length-set}
+use Rattle.std.proofs.lemmas.List.{get_or_default, get_or-reverse, length-reverse}
 use lib.Seq.{drop-cons, get_or-set_same, get_or-set_other, drop-length}
 use Rattle.model.specs.Layout.{SampleField, Next, current, sample_rows}
 use Rattle.model.specs.Lists.{keep}
@@ -43,6 +44,17 @@ module _ (ws : List ℕ) (i a : ℕ) where
   set_sample k =
       same_sample_lem (set ws (sample_at current Next i) a) ws k
       (λ f p. set_other f k (λ e. omega (arith, sample_at_lem f k, sample_at_lem Next i)))
+
+-- Entries from the last on: where the one stands that comes after `done` of them.
+pub from_last : (es : List ℕ) (done e : ℕ) → (done < length (reverse es)) × (e ≡ get_or (reverse es) done e)
+    → (0 < length es - done) × (e ≡ get_or es (length es - done - 1) 0)
+from_last es done e h =
+    let some : done < length es = omega (arith, h.0, length-reverse es) in
+    let at : length es - 1 - done ≡ length es - done - 1 = omega arith in
+    (omega arith, h.1 ∙ get_or-reverse es done e some ∙ ap (λ (k : ℕ). get_or es k e) at ∙ get_or_default es (length es - done - 1) e 0 (omega arith))
+
+pub sub-add_one : (a b : ℕ) → a - (b + 1) ≡ a - b - 1
+sub-add_one a b = omega arith
 
 -- The entries from i on have their next words, and `after` is the row of the first of them.
 pub record NextsFrom (n : ℕ) (es ws : List ℕ) (after i : ℕ) : Type 0 where

@@ -3,7 +3,8 @@ use Prim.Native.Nat.{ℕ, suc, ◌+◌, ◌-◌, ◌*◌, ◌≤◌, ◌<◌}
 use mathlib.Core.Bool.{Bool, true, false}
 use mathlib.Core.List.{List, [], ◌++◌, append-nil, append_assoc}
 use mathlib.Core.Logic.{◌↔◌}
-use mathlib.Core.Option.{none, some}
+use Rattle.std.specs.Prelude.{Some, None}
+use Rattle.std.specs.Bool.{then_some}
 use mathlib.Core.Path.{◌≡◌, refl, sym, ap, ap₂, ◌∙◌}
 use native.Mathlib.Nat.{mul-zero, mul-add, mul-one}
 use native.Mathlib.Omega.{arith}
@@ -21,28 +22,29 @@ use Rattle.model.proofs.Tree.Splits.{octants_split, rows_split}
 use Rattle.model.proofs.Joined.{part_in_front}
 use Rattle.words.specs.Rows.{octant_row_by}
 use Rattle.order.specs.Entries.{view}
-use Rattle.octree.specs.Steps.{rows_of, Rooted, RowsTold, told_by}
-use Rattle.octree.proofs.Laws.Rows.Octant.{Says, row_size, empty_is, own_room, leaf_is}
+use Rattle.octree.specs.Steps.{rows_of, Rooted, RowsTold, Says}
+use Rattle.words.proofs.Laws.Layout.Octants.{octant_row_length}
+use Rattle.octree.proofs.Laws.Rows.Octant.{empty_is, own_room, leaf_is}
 use Rattle.octree.proofs.Laws.Rows.Passed.{child_rows, child_words, child_rows_length, own_and_children, Opened, Passed, pass_view, pass_rows, pass_place, split_is}
 
 -- A count of rows that are the definition's is told, and that there is none.
 module _ (b left number : ℕ) (es rows : List ℕ) where
   told_some : (n : ℕ) → octants_of b left (view es) ≡ n → take (octant_width current * n) rows ≡ rows_of b left number es
-      → RowsTold b left number es rows (some n)
+      → RowsTold b left number es rows (Some n)
   told_some n e is =
       record {
         same = λ m h. let d : n ≡ m = cc in (sym d ∙ sym e, rw (← d) is);
-        complete = λ h. ap some (sym e);
+        complete = λ h. ap Some (sym e);
       }
 
-  told_none : (take (octant_width current * octants_of b left (view es)) rows ≡ rows_of b left number es → ⊥) → RowsTold b left number es rows none
+  told_none : (take (octant_width current * octants_of b left (view es)) rows ≡ rows_of b left number es → ⊥) → RowsTold b left number es rows None
   told_none never = record { same = λ m h. let z : ◌≡◌ {A = ℕ} 0 1 = cc in absurd (omega arith); complete = λ h. absurd (never h) }
 
-  not_told : RowsTold b left number es rows none → take (octant_width current * octants_of b left (view es)) rows ≡ rows_of b left number es → ⊥
+  not_told : RowsTold b left number es rows None → take (octant_width current * octants_of b left (view es)) rows ≡ rows_of b left number es → ⊥
   not_told told is = let e = told.complete is in let z : ◌≡◌ {A = ℕ} 0 1 = cc in omega arith
 
   -- An octant with no sample has no rows.
-  pub told_empty : length es ≡ 0 → RowsTold b left number es rows (some 0)
+  pub told_empty : length es ≡ 0 → RowsTold b left number es rows (Some 0)
   told_empty e =
       let none_here = empty_is b left number es e in
       told_some 0 none_here.0 (ap (λ (n : ℕ). take n rows) (mul-zero (octant_width current)) ∙ sym none_here.1)
@@ -51,8 +53,7 @@ module _ (b left number : ℕ) (es rows : List ℕ) where
   told_by_row : (same : Bool) (n : ℕ) (row tail : List ℕ) → (same ≡ true) ↔ (take (octant_width current) rows ≡ row)
       → octants_of b left (view es) ≡ n → rows_of b left number es ≡ row ++ tail
       → take (octant_width current * n) rows ≡ take (octant_width current) rows ++ tail → octant_width current ≤ length rows
-      → length row ≡ octant_width current → RowsTold b left number es rows (told_by same n)
-  unfolding told_by
+      → length row ≡ octant_width current → RowsTold b left number es rows (then_some same n)
   told_by_row true n row tail test e all behind room size =
       told_some n e (behind ∙ ap (λ (l : List ℕ). l ++ tail) (test.0 refl) ∙ sym all)
   told_by_row false n row tail test e all behind room size =
@@ -96,7 +97,7 @@ module _ {b left number : ℕ} {es : List ℕ} {words : ℕ} {sizes : List ℕ} 
 
   -- Its rows match.
   pub matched_steps : (n : ℕ) → Matched b (left - 1) number (view es) rows k
-      → RowsTold b (left - 1) (number + used) theirs (take (length rows - from) (drop from rows)) (some n)
+      → RowsTold b (left - 1) (number + used) theirs (take (length rows - from) (drop from rows)) (Some n)
       → (n ≡ octants_of b (left - 1) (view theirs)) × Matched b (left - 1) number (view es) rows (k + 1)
   unfolding joined total
   matched_steps n matched told =
@@ -119,8 +120,8 @@ module _ {b left number : ℕ} {es : List ℕ} {words : ℕ} {sizes : List ℕ} 
       )
 
   -- Its rows differ, and so do the octant's.
-  pub told_different : RowsTold b (left - 1) (number + used) theirs (take (length rows - from) (drop from rows)) none
-      → RowsTold b left number es rows none
+  pub told_different : RowsTold b (left - 1) (number + used) theirs (take (length rows - from) (drop from rows)) None
+      → RowsTold b left number es rows None
   unfolding children
   told_different told =
       told_none b left number es rows
@@ -161,7 +162,7 @@ pub told_ends : {b left number first last count : ℕ} {es : List ℕ} → Says 
     → Opened b left number es words sizes → Passed b (left - 1) number (view es) kids used at k → 8 ≤ k
     → (rows : List ℕ) → length rows ≡ words → Matched b (left - 1) number (view es) rows k → (same : Bool)
     → (same ≡ true) ↔ (take (octant_width current) rows ≡ octant_row_by current first last count kids)
-    → RowsTold b left number es rows (told_by same used)
+    → RowsTold b left number es rows (then_some same used)
 told_ends {b} {left} {number} {first} {last} {count} {es} says {words} {sizes} {kids} {used} {at} {k} octant so_far e rows long matched same test =
     let w : ℕ = octant_width current in
     let whole : k ≡ 8 = omega (arith, so_far.child) in
@@ -172,17 +173,17 @@ told_ends {b} {left} {number} {first} {last} {count} {es} says {words} {sizes} {
     (own_and_children w used (total (λ i. octants_of b (left - 1) (part (left - 1) i (view es))) k) so_far.counted)
     ∙ take-add w (w * total (λ i. octants_of b (left - 1) (part (left - 1) i (view es))) k) rows
     ∙ ap (λ (l : List ℕ). take w rows ++ l) (matched.is ∙ ap (joined (child_rows b (left - 1) number (view es))) whole))
-    (omega (arith, own_room octant.rooted says.held)) (row_size first last count kids)
+    (omega (arith, own_room octant.rooted says.held)) (octant_row_length first last count kids)
 
 -- An octant that is not split has one row.
 pub told_leaf : {b left number first last count : ℕ} {es : List ℕ} → Says first last count es → (rows : List ℕ)
     → Rooted b left number es (length rows) → splits b left (view es) ≡ false → (same : Bool)
     → (same ≡ true) ↔ (take (octant_width current) rows ≡ octant_row_by current first last count (replicate 8 0))
-    → RowsTold b left number es rows (told_by same 1)
+    → RowsTold b left number es rows (then_some same 1)
 told_leaf {b} {left} {number} {first} {last} {count} {es} says rows r s same test =
     let w : ℕ = octant_width current in
     let row : List ℕ = octant_row_by current first last count (replicate 8 0) in
     let is = leaf_is says b left number (length rows) r s in
     told_by_row b left number es rows same 1 row [] test is.0 (is.1 ∙ sym (append-nil row))
     (ap (λ (n : ℕ). take n rows) (mul-one w) ∙ sym (append-nil (take w rows))) (own_room r says.held)
-    (row_size first last count (replicate 8 0))
+    (octant_row_length first last count (replicate 8 0))

@@ -7,7 +7,7 @@ use native.Mathlib.Nat.{mul-zero, mul-one, mul-le-mul_left}
 use native.Mathlib.Numerals.{sub-one}
 use native.Mathlib.Omega.{arith}
 use borrow.Author.Tests.{eq-eqb, ne_eqb}
-use lib.ListN.{length, get_or, replicate, length-map, get_or-replicate}
+use lib.ListN.{length, get_or, replicate, get_or-replicate}
 use Rattle.colour.specs.Octant.{children}
 use Rattle.model.specs.Layout.{current, octant_width}
 use Rattle.model.specs.Lists.{joined}
@@ -21,7 +21,7 @@ use Rattle.model.proofs.Tree.Splits.{split_deep, octants_leaf, octants_split, ro
 use Rattle.words.specs.Rows.{octant_field_of, octant_row_by}
 use Rattle.order.specs.Entries.{placed_of, view}
 use Rattle.order.proofs.Laws.Entries.View.{view_length}
-use Rattle.octree.specs.Steps.{rows_of, Rooted, child_word_of}
+use Rattle.octree.specs.Steps.{rows_of, Rooted, Says, child_word_of}
 
 -- The first entry has the first row, and the last the last.
 pub first_entry : (es : List ℕ) → 1 ≤ length es → get_or es 0 0 % 4096 ≡ first_row 0 (view es)
@@ -74,11 +74,6 @@ row_is b left number first last count xs kids held o f l c w =
       w 7 (omega arith),
     )
 
--- A row has the words of the layout.
-pub row_size : (first last count : ℕ) (kids : List ℕ) → length (octant_row_by current first last count kids) ≡ octant_width current
-unfolding octant_row_by octant_width
-row_size first last count kids = length-map current.octant (octant_field_of first last count kids)
-
 -- An octant with no samples comes to no rows.
 pub empty_is : (b left number : ℕ) (es : List ℕ) → length es ≡ 0 → (octants_of b left (view es) ≡ 0) × (rows_of b left number es ≡ [])
 empty_is b left number es e =
@@ -104,13 +99,6 @@ own_room {b} {left} {number} {words} {es} r h =
       mul-le-mul_left (octant_width current) (some_octant b left (view es) (omega (arith, view_length es))),
       r.room,
     )
-
--- A row that says the first and the last row and the number of the entries.
-pub record Says (first last count : ℕ) (es : List ℕ) : Type 0 where
-  pub held : 1 ≤ length es
-  pub first_is : first ≡ first_row 0 (view es)
-  pub last_is : last ≡ last_row 0 (view es)
-  pub count_is : count ≡ length es
 
 module _ {first last count : ℕ} {es : List ℕ} (says : Says first last count es) (b left number : ℕ) where
   pub said : (kids : List ℕ) → order_of b left (view es) ≡ view es → ((i : ℕ) → i < 8 → get_or kids i 0 ≡ child_word b left number (view es) i)

@@ -23,8 +23,8 @@ use Rattle.order.specs.Entries.{view, child_shift}
 use Rattle.order.specs.Steps.{Sizes}
 use Rattle.order.proofs.Laws.Entries.View.{view_length, view_take, view_drop}
 use Rattle.order.proofs.Laws.Order.{child_size}
-use Rattle.octree.specs.Steps.{rows_of, Rooted, child_word_of}
-use Rattle.octree.proofs.Laws.Rows.Octant.{Says, child_word_is, ordered_children, said}
+use Rattle.octree.specs.Steps.{rows_of, Rooted, Says, child_word_of}
+use Rattle.octree.proofs.Laws.Rows.Octant.{child_word_is, ordered_children, said}
 
 -- The rows of child i and of the octants below it.
 abbrev pub child_rows : ℕ → ℕ → ℕ → List Placed → ℕ → List ℕ
@@ -74,6 +74,7 @@ pub record ChildBounds (b left number : ℕ) (es : List ℕ) (words used at end 
   pub inside : end ≤ length es
   pub few : length es ≤ 4096
   pub number_fits : number + used < 2 ^ 32
+  pub deep : 1 ≤ left
   pub count_fits : used + octants_of b (left - 1) (view (take (end - at) (drop at es))) < 2 ^ 32
   pub room : octant_width current * used ≤ words
 
@@ -147,6 +148,7 @@ module _ {b left number : ℕ} {es : List ℕ} {words : ℕ} {sizes : List ℕ} 
         inside = pass_within;
         few = octant.rooted.few;
         number_fits = omega (arith, pass_octants, octant.rooted.numbers);
+        deep = omega (arith, deep);
         count_fits = omega (arith, pass_octants, octant.rooted.numbers);
         room = omega (arith, pass_room);
       }

@@ -4,7 +4,6 @@ use mathlib.Core.Bool.{Bool, true, false, not}
 use mathlib.Core.List.{List, [], ◌∷◌}
 use mathlib.Core.Logic.Iff
 use mathlib.Core.Logic.{◌↔◌}
-use mathlib.Core.Option.{none-ne-some, some-injective}
 use mathlib.Core.Path.{◌≡◌, sym, ap, ap₂, ◌∙◌, subst}
 use native.Mathlib.Omega.{arith}
 use borrow.Author.Tests.{le-leb, leb-true, lt-leb}
@@ -23,10 +22,9 @@ use Rattle.words.specs.Rows.{settings_in, samples_from, first_samples, set_of}
 use Rattle.words.proofs.Laws.Answers.{says_no, refuted}
 use Rattle.words.proofs.Laws.Layout.Places.{rows_few}
 use Rattle.words.proofs.Laws.Layout.Samples.{samples_length}
+use Rattle.std.specs.Prelude.{Result, Ok, Err}
 use Rattle.order.specs.Entries.{entries_of, view}
-use Rattle.octree.specs.Steps.{Ordered, RowsOnce, sample_table_by, octant_table_by, SameTables, Writable, Listed, fits_rows, fit_number, fit_octants, Judged}
-use Rattle.octree.specs.declared.tables.Fit.{Fit}
-use Rattle.octree.specs.declared.tables.Fit.TheVariants as F
+use Rattle.octree.specs.Steps.{Ordered, RowsOnce, sample_table_by, octant_table_by, SameTables, Writable, Listed, fits_rows, fit_number, Judged}
 use Rattle.octree.proofs.Laws.Tables.Tagless.{entries_octants, InOrder, is_ordered, same_octants, sample_table, octant_table, rows_once}
 
 -- Questions 6 and 7 for a list of samples.
@@ -34,31 +32,31 @@ module _ (b : ℕ) (es after : List ℕ) (samples octs : ℕ) where
   abbrev count : ℕ
   count = octants_of b depths (view es)
 
-  pub lacks_row : sample_rows current samples < length es → Judged b es after samples octs (F.Refused R.NoRow)
-  unfolding fit_octants fits_rows first_no
+  pub lacks_row : sample_rows current samples < length es → Judged b es after samples octs (Err R.NoRow)
+  unfolding fits_rows first_no
   lacks_row h =
       record {
         number = rw (lt-leb (length es) (sample_rows current samples) h, first_no);
-        octants = λ n e. absurd (none-ne-some n e);
-        order = λ n e. absurd (none-ne-some n e);
+        octants = λ n e. cc;
+        order = λ n e. cc;
       }
 
-  pub lacks_octants : length es ≤ sample_rows current samples → octant_rows current octs < count → Judged b es after samples octs (F.Refused R.NoOctants)
-  unfolding fit_octants fits_rows first_no
+  pub lacks_octants : length es ≤ sample_rows current samples → octant_rows current octs < count → Judged b es after samples octs (Err R.NoOctants)
+  unfolding fits_rows first_no
   lacks_octants h k =
       record {
         number = rw (le-leb (length es) (sample_rows current samples) h, first_no, lt-leb count (octant_rows current octs) k, first_no);
-        octants = λ n e. absurd (none-ne-some n e);
-        order = λ n e. absurd (none-ne-some n e);
+        octants = λ n e. cc;
+        order = λ n e. cc;
       }
 
   pub judged : (n : ℕ) → length es ≤ sample_rows current samples → n ≤ octant_rows current octs → n ≡ octants_of b depths (view es)
-      → view after ≡ order_of b depths (view es) → Judged b es after samples octs (F.Fits n)
-  unfolding fit_octants fits_rows first_no
+      → view after ≡ order_of b depths (view es) → Judged b es after samples octs (Ok n)
+  unfolding fits_rows first_no
   judged n h k c o =
       record {
         number = rw (le-leb (length es) (sample_rows current samples) h, first_no, le-leb count (octant_rows current octs) (omega arith), first_no);
-        octants = λ m e. sym (some-injective n m e) ∙ c;
+        octants = λ m e. cc;
         order = λ m e. o;
       }
 
@@ -86,7 +84,7 @@ module _ {s : Settings} {ws : List ℕ} (os : List ℕ) {es : List ℕ} (w : Wri
   tables_written ws' os' d e = ap₂ pair (d ∙ sample_table written_order (length ws)) (e ∙ octant_table written_order (length os))
 
 -- A refusal has a number.
-pub unfit : (r : Fit) (q : Refusal) → r ≡ F.Refused q → fit_number r ≡ 0 → ⊥
+pub unfit : (r : Result ℕ Refusal) (q : Refusal) → r ≡ Err q → fit_number r ≡ 0 → ⊥
 unfit r q e z = refusal_numbered q (sym (ap fit_number e) ∙ z)
 
 -- Entries of the samples in the first rows, judged: these find rows, so that question 7 alone is left, and it asks the set that the rows say.
@@ -101,7 +99,7 @@ module _ (s : Settings) (ws es : List ℕ) (few : length es ≤ sample_rows curr
       ap (λ (l : List ℕ). octants_of s.bucket depths (view l)) entries
       ∙ entries_octants s (samples_from current ws 0 (length es)) samples_few
 
-  module _ (after : List ℕ) (octant_length : ℕ) (r : Fit) (told : Judged s.bucket es after (length ws) octant_length r) where
+  module _ (after : List ℕ) (octant_length : ℕ) (r : Result ℕ Refusal) (told : Judged s.bucket es after (length ws) octant_length r) where
     room_number : fit_number r ≡ first_no (asks 7 (leb (octants (set_of current ws s (length es))) (octant_rows current octant_length)) ∷ [])
     unfolding fits_rows
     room_number =
@@ -116,7 +114,7 @@ module _ (s : Settings) (ws es : List ℕ) (few : length es ≤ sample_rows curr
     unfolding first_no
     room_fits h = room_number ∙ alone_yes 7 _ (le-leb _ _ h)
 
-module _ {s : Settings} {ws os es after : List ℕ} {scratch : ℕ} (listed : Listed s ws os es scratch) {r : Fit}
+module _ {s : Settings} {ws os es after : List ℕ} {scratch : ℕ} (listed : Listed s ws os es scratch) {r : Result ℕ Refusal}
     (told : Judged s.bucket es after (length ws) (length os) r) where
   abbrev Same : Type 0
   Same = SameTables s (length es) ws os
@@ -127,15 +125,13 @@ module _ {s : Settings} {ws os es after : List ℕ} {scratch : ℕ} (listed : Li
   pub not_fitting : (fit_number r ≡ 0 → ⊥) → (false ≡ true) ↔ Same
   not_fitting ne = says_no (λ same. ne (room_fits s ws es listed.headed.few listed.entries after (length os) r told same.octants_fit))
 
-  module _ {n : ℕ} (fits : r ≡ F.Fits n) (as_long : length after ≡ length es) where
+  module _ {n : ℕ} (fits : r ≡ Ok n) (as_long : length after ≡ length es) where
     octants_said : n ≡ octants_of s.bucket depths (view es)
-    unfolding fit_octants
-    octants_said = told.octants n (ap fit_octants fits)
+    octants_said = told.octants n fits
 
     ordered_by : InOrder s (samples_from current ws 0 (length es)) after
-    unfolding fit_octants
     ordered_by =
-        record { few = samples_few s ws es listed.headed.few listed.entries; order = told.order n (ap fit_octants fits) ∙ ap (λ (l : List ℕ). order_of s.bucket depths (view l)) listed.entries }
+        record { few = samples_few s ws es listed.headed.few listed.entries; order = told.order n fits ∙ ap (λ (l : List ℕ). order_of s.bucket depths (view l)) listed.entries }
 
     pub judged_once : RowsOnce (length after) after
     judged_once =

@@ -4,7 +4,7 @@ use mathlib.Core.Bool.{Bool, true, false}
 use mathlib.Core.List.{List, [], ◌∷◌, ◌++◌}
 use mathlib.Core.Logic.Iff
 use mathlib.Core.Logic.{◌↔◌}
-use mathlib.Core.Option.{none, Option, some, none-ne-some}
+use Rattle.std.specs.Prelude.{Option, Some, None}
 use mathlib.Core.Path.{◌≡◌, refl, sym, ap, ap₂, ◌∙◌, subst}
 use native.Mathlib.Omega.{arith}
 use borrow.Rule.Slice.PartMut.{put_mid}
@@ -94,7 +94,7 @@ module _ {b : ℕ} {es os : List ℕ} {n : ℕ} (fits : Fitting b es os n) where
         within = octants_room (length os) n at fits.header fits.rows_fit e;
       }
 
-  pub told_end : {ws : List ℕ} {r : Option ℕ} → RowsTold b depths 0 es ws r → {m : ℕ} → r ≡ some m → (at : ℕ) → at ≡ octant_start current m
+  pub told_end : {ws : List ℕ} {r : Option ℕ} → RowsTold b depths 0 es ws r → {m : ℕ} → r ≡ Some m → (at : ℕ) → at ≡ octant_start current m
       → OctantsEnd (length os) at
   told_end told {m} e at a = octants_end at (a ∙ ap (octant_start current) ((told.same m e).0 ∙ sym fits.counted))
 
@@ -127,13 +127,12 @@ module _ {b : ℕ} {es os : List ℕ} {n : ℕ} (fits : Fitting b es os n) where
     rows_are : (m : ℕ) → take m (take (length os - start) (drop start os)) ≡ take m (drop 1 os)
     rows_are m = ap (take m) (octants_part os start at)
 
-    pub rows_other : r ≡ none → (false ≡ true) ↔ Table
+    pub rows_other : r ≡ None → (false ≡ true) ↔ Table
     rows_other e =
         says_no
-        (λ q. none-ne-some (count b es)
-        (sym e ∙ told.complete (rows_are (octant_width current * count b es) ∙ (held_octants b es os fits.header q).0.1)))
+        (λ q. let all = told.complete (rows_are (octant_width current * count b es) ∙ (held_octants b es os fits.header q).0.1) in cc)
 
-    pub octants_tell : {m : ℕ} → r ≡ some m → count_in os ≡ n → (k : ℕ) → k ≡ octant_start current m → (z : Bool)
+    pub octants_tell : {m : ℕ} → r ≡ Some m → count_in os ≡ n → (k : ℕ) → k ≡ octant_start current m → (z : Bool)
         → (z ≡ true) ↔ Zero (take (length os - k) (drop k os)) → (z ≡ true) ↔ Table
     octants_tell {m} e c k h z tail =
         let s = told.same m e in

@@ -19,24 +19,25 @@ returns-in_default c =
 pub samples_are-requires : goal.samples_are-requires
 samples_are-requires c =
     let h = c.requires.headed in
-    let few = judged_few c.requires c.judge.ensures c.in-Fits.is c.judge.auto.entries in
-    let once = judged_once c.requires c.judge.ensures c.in-Fits.is c.judge.auto.entries in
+    let few = judged_few c.requires c.judge.ensures c.in-Ok.is c.judge.auto.entries in
+    let once = judged_once c.requires c.judge.ensures c.in-Ok.is c.judge.auto.entries in
     (h.sample_words_is, record { few = few; once = once }, h.counted ∙ sym c.judge.auto.entries)
 
-pub returns-then-not-samples_are : goal.returns-then-not-samples_are
-returns-then-not-samples_are c =
-    samples_differ c.requires c.judge.ensures c.in-Fits.is c.judge.auto.entries c.samples_are.result (ap not c.if-not-samples_are.true)
-    c.samples_are.ensures
+pub returns-else-samples_are : goal.returns-else-samples_are
+returns-else-samples_are c =
+    rw c.if-samples_are.false
+    (samples_differ c.requires c.judge.ensures c.in-Ok.is c.judge.auto.entries c.samples_are.result (ap not c.if-samples_are.false)
+    c.samples_are.ensures)
 
 pub octants_are-requires : goal.octants_are-requires
 octants_are-requires c =
-    let few = judged_few c.requires c.judge.ensures c.in-Fits.is c.judge.auto.entries in
-    let ordered = judged_ordered c.requires c.judge.ensures c.in-Fits.is c.judge.auto.entries in
-    let octants = judged_octants c.requires c.judge.ensures c.in-Fits.is c.judge.auto.entries in
-    let room = judged_room c.requires c.judge.ensures c.in-Fits.is c.judge.auto.entries in
+    let few = judged_few c.requires c.judge.ensures c.in-Ok.is c.judge.auto.entries in
+    let ordered = judged_ordered c.requires c.judge.ensures c.in-Ok.is c.judge.auto.entries in
+    let octants = judged_octants c.requires c.judge.ensures c.in-Ok.is c.judge.auto.entries in
+    let room = judged_room c.requires c.judge.ensures c.in-Ok.is c.judge.auto.entries in
     (c.requires.headed.octant_words_is, omega (arith, few, rows_few (length c.args.samples.now)), ordered, octants, room)
 
-pub returns : goal.returns
-returns c =
-    tables_tell c.requires c.judge.ensures c.in-Fits.is c.judge.auto.entries (c.samples_are.ensures.0 c.if-not-samples_are.false)
+pub returns-then-samples_are : goal.returns-then-samples_are
+returns-then-samples_are c =
+    tables_tell c.requires c.judge.ensures c.in-Ok.is c.judge.auto.entries (c.samples_are.ensures.0 c.if-samples_are.true)
     c.octants_are.result c.octants_are.ensures

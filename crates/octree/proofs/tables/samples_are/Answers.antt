@@ -6,10 +6,11 @@ use Rattle.words.proofs.Laws.Layout.Places.{samples_end}
 use Rattle.octree.proofs.Laws.Tables.Samples.{nexts_other, rest_tells}
 use Rattle.octree.proofs.tables.samples_are.Goals as goal
 
-pub returns-then-not-all_are : goal.returns-then-not-all_are
-returns-then-not-all_are c =
+pub returns-else-all_are : goal.returns-else-all_are
+returns-else-all_are c =
     let p = c.requires in
-    nexts_other _ _ _ p.0 p.1.few p.2 c.all_are.result (ap not c.if-not-all_are.true) c.all_are.ensures
+    rw c.if-all_are.false
+    (nexts_other _ _ _ p.0 p.1.few p.2 c.all_are.result (ap not c.if-all_are.false) c.all_are.ensures)
 
 pub sample_start-from-requires : goal.sample_start-from-requires
 sample_start-from-requires c =
@@ -31,8 +32,8 @@ slice_bounds-are_zero-start c =
     let p = c.requires in
     (samples_end _ _ _ p.0 p.1.few c.sample_start-from.ensures).within
 
-pub returns : goal.returns
-returns c =
+pub returns-then-all_are : goal.returns-then-all_are
+returns-then-all_are c =
     let p = c.requires in
-    rest_tells _ _ _ p.0 p.1.few p.2 _ c.sample_start-from.ensures (c.all_are.ensures.0 c.if-not-all_are.false) c.are_zero.result
+    rest_tells _ _ _ p.0 p.1.few p.2 _ c.sample_start-from.ensures (c.all_are.ensures.0 c.if-all_are.true) c.are_zero.result
     c.are_zero.ensures
