@@ -2,11 +2,12 @@
 use Prim.Native.Nat.{ℕ, ◌+◌, ◌-◌, ◌^◌, ◌≤◌, ◌<◌}
 use mathlib.Core.Bool.{Bool, true, false, ◌&&◌, and-false, and-eq-true_iff}
 use mathlib.Core.List.{List, ◌++◌}
-use mathlib.Core.Option.{none, some}
+use Rattle.std.specs.Prelude.{None, Some, Result, Ok, Err}
 use mathlib.Core.Path.{◌≡◌, refl, sym, ap, ◌∙◌}
 use native.Mathlib.Omega.{arith}
 use lib.Dec.{eqb}
 use lib.ListN.{length, take, drop}
+use lib.Pointwise.{pointwise}
 use lib.Seq.{take_all}
 use borrow.Author.Tests.{eq-eqb, ne_eqb, lt-ltb, le-leb}
 use borrow.Rule.Slice.PartMut.{put_mid}
@@ -16,15 +17,12 @@ use Rattle.colour.specs.Colour.{Channel, code_in, each, is_tag, codes_fit}
 use Rattle.colour.specs.Question.{first_no}
 use Rattle.colour.proofs.Laws.Channels.{each_every, each_no}
 use Rattle.sheet.specs.declared.line.Line.{Line}
-use Rattle.sheet.specs.declared.line.Reading.TheVariants as R
-use Rattle.sheet.specs.declared.writer.Written.{Written}
 use Rattle.sheet.specs.Answers.{line_answer, written_answer}
 use Rattle.colour.specs.Refusal.{answer_number}
 use Rattle.sheet.specs.Line.{LineAnswer, WriteAnswer, name_start, newline_at, line_length, name_good, line_of, line_asked, read_line, write_number, write_line}
-use Rattle.sheet.specs.Sheet.{same_bytes}
 use Rattle.sheet.proofs.Laws.Names.{name_good_lem}
 use Rattle.sheet.proofs.Laws.Parts.{part_tail, put_tail}
-use Rattle.sheet.proofs.Laws.Text.{same_self}
+use Rattle.sheet.proofs.Laws.Text.{same_pointwise, same_self}
 use Rattle.sheet.proofs.Laws.RoundTrip.Lines.{written_reads, written_name}
 use Rattle.sheet.proofs.Laws.Writing.Lines.{accepted}
 use Rattle.sheet_trip.specs.Same.{same_sample}
@@ -65,11 +63,11 @@ both false q n = refl
 pub record Stands (s : Sample) (name left : List ℕ) : Type 0 where
   pub codes : codes_fit s.colour ≡ true
   pub named : name_good name ≡ true
-  pub line : line_of left ≡ some (record { sample = s; name_length = length name })
+  pub line : line_of left ≡ Some (record { sample = s; name_length = length name })
   pub bytes : take (length name) (drop name_start left) ≡ name
 
 -- The writer's answer, over as many bytes as a line has.
-module _ (s : Sample) (name lent left : List ℕ) (w : Written) (room : length lent ≡ line_length) (said : written_answer w left ≡ write_line s name lent) where
+module _ (s : Sample) (name lent left : List ℕ) (w : Result (Unit {0}) Refusal) (room : length lent ≡ line_length) (said : written_answer w left ≡ write_line s name lent) where
   number_is : answer_number w ≡ (write_line s name lent).number
   unfolding written_answer
   number_is = ap (λ (a : WriteAnswer). a.number) said
@@ -103,21 +101,21 @@ module _ (s : Sample) (name lent left : List ℕ) (w : Written) (room : length l
 pub record Back (s : Sample) (name left : List ℕ) (l : Line) : Type 0 where
   pub sample : same_sample l.sample s ≡ true
   pub within : name_start + l.name_length ≤ line_length
-  pub bytes : same_bytes (take (name_start + l.name_length - name_start) (drop name_start left)) name ≡ (codes_fit s.colour && name_good name)
+  pub bytes : pointwise eqb (take (name_start + l.name_length - name_start) (drop name_start left)) name ≡ (codes_fit s.colour && name_good name)
 
 -- A line that stands reads as good, and what is read comes back.
 module _ (s : Sample) (name left : List ℕ) (stands : Stands s name left) where
-  pub never_refused : (r : Refusal) → line_answer (R.Refused r) ≡ read_line left → ⊥
+  pub never_refused : (r : Refusal) → line_answer (Err r) ≡ read_line left → ⊥
   unfolding line_answer read_line line_asked
   never_refused r read =
-      let e : none ≡ line_of left = ap (λ (a : LineAnswer). a.line) read in
+      let e : None ≡ line_of left = ap (λ (a : LineAnswer). a.line) read in
       let z : ◌≡◌ {A = ℕ} 0 1 = cc stands.line in
       omega arith
 
-  module _ (l : Line) (read : line_answer (R.Good l) ≡ read_line left) where
+  module _ (l : Line) (read : line_answer (Ok l) ≡ read_line left) where
     line_is : l ≡ record { sample = s; name_length = length name }
     unfolding line_answer read_line line_asked
-    line_is = let e : some l ≡ line_of left = ap (λ (a : LineAnswer). a.line) read in cc stands.line
+    line_is = let e : Some l ≡ line_of left = ap (λ (a : LineAnswer). a.line) read in cc stands.line
 
     length_is : l.name_length ≡ length name
     length_is = ap (λ (l : Line). l.name_length) line_is
@@ -131,11 +129,11 @@ module _ (s : Sample) (name left : List ℕ) (stands : Stands s name left) where
           sample = rw line_is (sample_same s);
           within = omega (arith, length_is, (name_good_lem name stands.named).fits);
           bytes =
-              ap (λ (t : List ℕ). same_bytes t name) is ∙ same_self name ∙ sym ((and-eq-true_iff _ _).1 (stands.codes, stands.named));
+              ap (λ (t : List ℕ). pointwise eqb t name) is ∙ same_pointwise name name ∙ same_self name ∙ sym ((and-eq-true_iff _ _).1 (stands.codes, stands.named));
         }
 
 -- A line written over the bytes of a sheet from byte `at` on, which were lent and come back.
-pub line_put : (at : ℕ) (sheet name t : List ℕ) (s : Sample) (w : Written)
+pub line_put : (at : ℕ) (sheet name t : List ℕ) (s : Sample) (w : Result (Unit {0}) Refusal)
     → written_answer w t ≡ write_line s name (take (length sheet - at) (drop at sheet))
     → put_mid at (length sheet - at) sheet t ≡ take at sheet ++ (write_line s name (drop at sheet)).left
 unfolding written_answer

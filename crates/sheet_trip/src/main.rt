@@ -7,10 +7,9 @@ ghost use Rattle.sheet.specs.Line.{name_good, write_line};
 ghost use Rattle.sheet_trip.specs.Same.{same_sample, grey_of};
 
 use colour::{Colour, Sample};
-use sheet::line::{LINE_LENGTH, NAME_START, Reading, read_line};
+use sheet::line::{LINE_LENGTH, NAME_START, read_line};
 use sheet::lookup::name_of;
-use sheet::text::same;
-use sheet::writer::{Written, write_line};
+use sheet::writer::write_line;
 use std::io::Print;
 
 // Whether two samples are the same.
@@ -35,18 +34,17 @@ fn comes_back(sample: Sample, name: &[u8]) -> bool
     ensures { result ≡ (codes_fit sample.colour && name_good name.now) }
 {
     let mut line = [0u8; LINE_LENGTH];
-    let answer = write_line(sample, name, &mut line);
-    let Written::Line = answer else {
+    let Ok(()) = write_line(sample, name, &mut line) else {
         return false;
     };
-    let Reading::Good(read) = read_line(&line) else {
+    let Ok(read) = read_line(&line) else {
         return false;
     };
     if !same_sample(read.sample, sample) {
         return false;
     }
     let end = NAME_START + read.name_length;
-    same(&line[NAME_START..end], name)
+    &line[NAME_START..end] == name
 }
 
 // A sample with one code in each channel.
@@ -75,7 +73,7 @@ fn put_line_at(sheet: &mut [u8], at: usize, sample: Sample, name: &[u8])
     ensures { sheet.new
         ≡ take at sheet.old ++ (write_line sample name.now (drop at sheet.old)).left }
 {
-    write_line(sample, name, &mut sheet[at..]);
+    let _answer = write_line(sample, name, &mut sheet[at..]);
 }
 
 // Makes a sheet of three written lines, the first and the last with one tag, and prints the names that it has for three tags.

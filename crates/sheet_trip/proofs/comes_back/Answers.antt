@@ -8,46 +8,46 @@ use Rattle.sheet.specs.Computes.{sheet_numbers}
 use Rattle.sheet.proofs.Laws.Writing.Lines.{refused}
 use Rattle.sheet_trip.proofs.Trip.{Stands, Back, none_written, line_written, never_refused, reads_back}
 use Rattle.sheet_trip.proofs.comes_back.Goals as goal
-use Rattle.sheet_trip.proofs.comes_back.Goals.{In-Good, In-Line}
+use Rattle.sheet_trip.proofs.comes_back.Goals.{In-Ok-read_line, In-Ok}
 
 -- After the writer has accepted, the line stands.
-stands : (c : In-Line) → Stands c.args.sample c.args.name.now c.write_line-answer.new.line
+stands : (c : In-Ok) → Stands c.args.sample c.args.name.now c.write_line.new.line
 unfolding sheet_numbers
 stands c =
-    line_written _ _ _ _ _ refl c.write_line-answer.ensures (ap answer_number c.in-Line.is) c.write_line-answer.auto.line
+    line_written _ _ _ _ _ refl c.write_line.ensures (ap answer_number c.in-Ok.is) c.write_line.auto.line
     (omega (arith, c.well_formed.0))
 
 -- What is read from it comes back.
-back : (c : In-Good)
-    → Stands c.args.sample c.args.name.now c.write_line-answer.new.line
-    → Back c.args.sample c.args.name.now c.write_line-answer.new.line c.in-Good.read
+back : (c : In-Ok-read_line)
+    → Stands c.args.sample c.args.name.now c.write_line.new.line
+    → Back c.args.sample c.args.name.now c.write_line.new.line c.in-Ok-read_line.read
 unfolding line_answer
-back c s = reads_back _ _ _ s _ (ap line_answer (sym c.in-Good.is) ∙ c.read_line.ensures)
+back c s = reads_back _ _ _ s _ (ap line_answer (sym c.in-Ok-read_line.is) ∙ c.read_line.ensures)
 
 pub returns-in_default : goal.returns-in_default
 unfolding sheet_numbers
 returns-in_default c =
-    none_written _ _ _ _ _ refl c.write_line-answer.ensures (refused _ _ c.in_default.is)
+    none_written _ _ _ _ _ refl c.write_line.ensures (refused _ _ c.in_default.is)
 
 pub returns-in_default-read_line : goal.returns-in_default-read_line
 returns-in_default-read_line c =
-    absurd (never_refused _ _ _ (stands (goal.at.returns-in_default-read_line c).In-Line) _ (ap line_answer (sym c.in_default-read_line.is) ∙ c.read_line.ensures))
+    absurd (never_refused _ _ _ (stands (goal.at.returns-in_default-read_line c).In-Ok) _ (ap line_answer (sym c.in_default-read_line.is) ∙ c.read_line.ensures))
 
 pub returns-then-not-same_sample : goal.returns-then-not-same_sample
 returns-then-not-same_sample c =
-    absurd (true≢false (sym (c.same_sample.ensures ∙ (back (goal.at.returns-then-not-same_sample c).In-Good (stands (goal.at.returns-then-not-same_sample c).In-Line)).sample) ∙ c.if-not-same_sample.true))
+    absurd (true≢false (sym (c.same_sample.ensures ∙ (back (goal.at.returns-then-not-same_sample c).In-Ok-read_line (stands (goal.at.returns-then-not-same_sample c).In-Ok)).sample) ∙ c.if-not-same_sample.true))
 
 pub overflow_add-end : goal.overflow_add-end
 unfolding sheet_numbers
 overflow_add-end c =
-    omega (arith, (back (goal.at.overflow_add-end c).In-Good (stands (goal.at.overflow_add-end c).In-Line)).within)
+    omega (arith, (back (goal.at.overflow_add-end c).In-Ok-read_line (stands (goal.at.overflow_add-end c).In-Ok)).within)
 
-pub slice_bounds-same-end : goal.slice_bounds-same-end
+pub slice_bounds-eq-end : goal.slice_bounds-eq-end
 unfolding sheet_numbers
-slice_bounds-same-end c =
-    omega (arith, (back (goal.at.slice_bounds-same-end c).In-Good (stands (goal.at.slice_bounds-same-end c).In-Line)).within, c.write_line-answer.auto.line)
+slice_bounds-eq-end c =
+    omega (arith, (back (goal.at.slice_bounds-eq-end c).In-Ok-read_line (stands (goal.at.slice_bounds-eq-end c).In-Ok)).within, c.write_line.auto.line)
 
 pub returns : goal.returns
 unfolding sheet_numbers
 returns c =
-    c.same.ensures ∙ (back (goal.at.returns c).In-Good (stands (goal.at.returns c).In-Line)).bytes
+    c.eq.ensures ∙ (back (goal.at.returns c).In-Ok-read_line (stands (goal.at.returns c).In-Ok)).bytes

@@ -5,4 +5,4 @@ use Rattle.sheet_trip.proofs.put_line_at.Goals as goal
 pub returns : goal.returns
 returns c =
     let a = c.args in
-    line_put a.at a.sheet.now _ _ _ _ c.write_line.ensures
+    line_put a.at a.sheet.now _ _ _ _ c.write_line-answer.ensures
