@@ -5,7 +5,7 @@ use Rattle.colour.specs.declared.Settings.{Settings}
 use Rattle.colour.specs.Octant.{depths}
 use Rattle.colour.specs.Question.{Question, asks, first_no}
 use Rattle.colour.specs.declared.refusal.Refusal.{Refusal}
-use Rattle.colour.specs.Refusal.{refusal_number}
+use Rattle.colour.specs.Refusal.{answer_number}
 use Rattle.model.specs.Lists.{keep, padded}
 use Rattle.model.specs.SampleSet.{Placed, placed_from, order_of, octants_of, octants}
 use Rattle.model.specs.Layout.{Next, current, sample_header, octant_header, octant_width, sample_rows, octant_rows}
@@ -74,14 +74,9 @@ fits_rows b es sample_length octant_length =
     ∷ asks 7 (leb (octants_of b depths (view es)) (octant_rows current octant_length))
     ∷ []
 
--- The paper's number for each answer of the judging function.
-abbrev pub fit_number : Result ℕ Refusal → ℕ
-fit_number (Ok n) = 0
-fit_number (Err r) = refusal_number r
-
 -- What a judged list comes to: the number, the octant count where it is 0, and then the entries in their order.
 pub record Judged (b : ℕ) (before after : List ℕ) (sample_length octant_length : ℕ) (r : Result ℕ Refusal) : Type 0 where
-  pub number : fit_number r ≡ first_no (fits_rows b before sample_length octant_length)
+  pub number : answer_number r ≡ first_no (fits_rows b before sample_length octant_length)
   pub octants : (n : ℕ) → r ≡ Ok n → n ≡ octants_of b depths (view before)
   pub order : (n : ℕ) → r ≡ Ok n → view after ≡ order_of b depths (view before)
 

@@ -31,8 +31,12 @@ row_of_tag t [] = 0
 row_of_tag t (s ∷ rest) = elim (eqb s.tag t) [ true ↦ 0 | false ↦ suc (row_of_tag t rest) ]
 
 -- The place, if there is one.
+unfoldable pub found_if : Bool → ℕ → Option ℕ
+found_if true row = Some row
+found_if false row = None
+
 unfoldable pub row_found : ℕ → List Sample → Option ℕ
-row_found t xs = elim (has_tag t xs) [ true ↦ Some (row_of_tag t xs) | false ↦ None ]
+row_found t xs = found_if (has_tag t xs) (row_of_tag t xs)
 
 -- The samples without the one at a place.
 unfoldable pub without_row : ℕ → List Sample → List Sample

@@ -37,11 +37,11 @@ fn add_in_row(samples: &mut [u32], octants: &mut [u32], n: usize, s: Sample) -> 
 {
     let settings = settings_of(samples);
     put_sample(samples, n, s);
-    let answer = rebuild(samples, octants, settings, n + 1);
-    if answer.is_err() {
+    let Ok(()) = rebuild(samples, octants, settings, n + 1) else {
         put_sample(samples, n, EMPTY);
-    }
-    answer
+        return Err(Refusal::NoOctants);
+    };
+    Ok(())
 }
 
 // Questions 5 and 6, and then the rest, for a sample that has codes.

@@ -1,6 +1,5 @@
 // Load: the lines of a sheet, in turn, up to the first refused.
-ghost use Rattle.std.specs.Prelude.{◌≤◌, ◌≡◌, length};
-ghost use Rattle.std.proofs.Math.Option.{some};
+ghost use Rattle.std.specs.Prelude.{Some, ◌≤◌, ◌≡◌, length};
 ghost use Rattle.sheet.specs.Sheet.{line_start, line_count};
 ghost use Rattle.model.specs.Layout.{current, sample_rows};
 ghost use Rattle.model.specs.Tables.{pair, tables_lent, tables_left};
@@ -83,7 +82,7 @@ fn stopped(
 // Takes the lines of a sheet with a good header, on sound tables. All that can be rows become rows, and one tree is built: that of the
 // longest run of them that is a set which fits.
 fn load_lines(samples: &mut [u32], octants: &mut [u32], sheet: &[u8], lines: usize) -> Result<u32, Stop>
-    requires { (Sound current (pair samples.old octants.old)) × (line_count sheet.now ≡ some lines) }
+    requires { (Sound current (pair samples.old octants.old)) × (line_count sheet.now ≡ Some lines) }
     ensures { FollowsAll (Load sheet.now) (tables_lent samples octants)
         (loaded_answer result) (tables_left samples octants) }
 {

@@ -14,8 +14,10 @@ use Rattle.model.specs.Sound.{Distinct, CodesInRange}
 use Rattle.words.specs.Rows.{samples_from, set_of}
 use Rattle.words.proofs.Laws.Answers.{says_yes, says_no, refuted}
 use Rattle.order.specs.Entries.{entries_of}
-use Rattle.octree.specs.declared.tables.Fit.{Fit}
-use Rattle.octree.specs.Steps.{fit_number, Judged}
+use Rattle.octree.specs.Steps.{Judged}
+use Rattle.std.specs.Prelude.{Result, Ok, Err}
+use Rattle.colour.specs.declared.refusal.Refusal.{Refusal}
+use Rattle.colour.specs.Refusal.{answer_number}
 use Rattle.octree.proofs.Laws.Tables.Judged.{fits_room, room_fits}
 use Rattle.samples.specs.Steps.{Acceptable}
 
@@ -30,7 +32,7 @@ module _ (x : Settings) (ws : List ℕ) (octant_length n : ℕ) where
         says_no (λ a. false≢true (sym (not-true q off) ∙ t (subst (λ (k : ℕ). CodesInRange (samples_from current ws 0 k)) (sym kept) a.in_range)))
 
     module _ (es after : List ℕ) (as_long : length es ≡ m) (few : n ≤ sample_rows current (length ws)) (entries : es ≡ entries_of (samples_from current ws 0 m))
-        (r : Fit) (told : Judged x.bucket es after (length ws) octant_length r) where
+        (r : Result ℕ Refusal) (told : Judged x.bucket es after (length ws) octant_length r) where
       few_entries : length es ≤ sample_rows current (length ws)
       few_entries = omega (arith, as_long, kept, few)
 
@@ -40,11 +42,11 @@ module _ (x : Settings) (ws : List ℕ) (octant_length n : ℕ) where
       abbrev Room : ℕ → Type 0
       Room k = octants (set_of current ws x k) ≤ octant_rows current octant_length
 
-      pub octants_over : (fit_number r ≡ 0 → ⊥) → (false ≡ true) ↔ Acceptable x ws octant_length n
+      pub octants_over : (answer_number r ≡ 0 → ⊥) → (false ≡ true) ↔ Acceptable x ws octant_length n
       octants_over ne =
           says_no (λ a. ne (room_fits x ws es few_entries own_entries after octant_length r told (subst Room (sym (as_long ∙ kept)) a.octants_fit)))
 
-      pub all_accepted : Distinct (samples_from current ws 0 n) → CodesInRange (samples_from current ws 0 m) → fit_number r ≡ 0
+      pub all_accepted : Distinct (samples_from current ws 0 n) → CodesInRange (samples_from current ws 0 m) → answer_number r ≡ 0
           → (true ≡ true) ↔ Acceptable x ws octant_length n
       all_accepted d i e =
           says_yes (record {

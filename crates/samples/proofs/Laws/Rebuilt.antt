@@ -2,7 +2,7 @@
 use Prim.Native.Nat.{ℕ, ◌≤◌, ◌<◌}
 use mathlib.Core.Bool.{Bool, true, false, not, true≢false, and-eq-true_iff}
 use mathlib.Core.List.{List, [], ◌∷◌}
-use mathlib.Core.Path.{◌≡◌, refl, sym, ap, ◌∙◌, subst}
+use mathlib.Core.Path.{◌≡◌, refl, sym, ap, ◌∙◌, subst, subst⁻¹}
 use native.Mathlib.Omega.{arith}
 use borrow.Author.Tests.{le-leb, leb-true, leb-false, not-true}
 use lib.Dec.{leb}
@@ -12,19 +12,25 @@ use Rattle.colour.specs.declared.Settings.{Settings}
 use Rattle.colour.specs.Octant.{depths}
 use Rattle.colour.specs.Colour.{codes_fit}
 use Rattle.colour.specs.Question.{Question, asks, first_no}
-use Rattle.colour.proofs.Laws.Questions.{asked, first_yes, alone_yes}
-use Rattle.model.specs.SampleSet.{order_of, octants}
-use Rattle.model.specs.Layout.{current, octant_rows}
+use Rattle.colour.proofs.Laws.Questions.{asked, first_yes, first_no_lem, alone_yes, refusal_numbered}
+use Rattle.colour.proofs.Laws.Refused.{refused_numbered}
+use Rattle.model.specs.SampleSet.{order_of, octants_of, octants}
+use Rattle.model.specs.Layout.{current, sample_rows, octant_rows}
 use Rattle.model.specs.Tables.{Tables, pair, tables_for}
 use Rattle.model.specs.Sound.{CodesInRange}
-use Rattle.octree.specs.declared.tables.Fit.{Fit}
-use Rattle.octree.specs.declared.tables.Fit.TheVariants as F
 use Rattle.words.specs.Rows.{samples_from, set_of}
 use Rattle.order.specs.Entries.{entries_of, view}
-use Rattle.octree.specs.Steps.{fit_number, fit_octants, Judged, Writable}
+use Rattle.octree.specs.Steps.{fits_rows, Judged, Writable}
+use Rattle.std.specs.Prelude.{Result, Ok, Err}
+use Rattle.colour.specs.declared.refusal.Refusal.{Refusal}
+use Rattle.colour.specs.Refusal.{refusal_number, answer_number}
 use Rattle.octree.proofs.Laws.Tables.Judged.{fits_room, room_fits}
 use Rattle.samples.specs.Rebuilding.{all_fit, room_asked, codes_asked, Rebuilt, Space, Entered}
 use Rattle.samples.specs.Steps.{Acceptable}
+
+-- The number by an equation.
+pub at_number : {qs : List Question} {x : Settings} {n : ℕ} {t t' : Tables} {r k : ℕ} → r ≡ k → Rebuilt qs x n t k t' → Rebuilt qs x n t r t'
+at_number {qs} {x} {n} {t} {t'} e told = subst⁻¹ (λ (k : ℕ). Rebuilt qs x n t k t') e told
 
 -- A question answered with no gives its number, and nothing is written.
 pub no_to : (k : ℕ) (a : Bool) (qs : List Question) (x : Settings) (n : ℕ) (t : Tables) → (k ≡ 0 → ⊥) → a ≡ false → Rebuilt (asks k a ∷ qs) x n t k t
@@ -64,12 +70,12 @@ module _ (x : Settings) (ws os es : List ℕ) (scratch : ℕ) (h : Entered ws os
   abbrev t₀ : Tables
   t₀ = pair ws os
 
-  module _ (after : List ℕ) (r : Fit) (told : Judged x.bucket es after (length ws) (length os) r) where
+  module _ (after : List ℕ) (r : Result ℕ Refusal) (told : Judged x.bucket es after (length ws) (length os) r) where
     abbrev room : Bool
     room = leb (octants (set_of current ws x (length es))) (octant_rows current (length os))
 
     -- A list that does not fit gives 7.
-    pub no_room : (fit_number r ≡ 0 → ⊥) → Rebuilt (room_asked x (length es) t₀) x (length es) t₀ 7 t₀
+    pub no_room : (answer_number r ≡ 0 → ⊥) → Rebuilt (room_asked x (length es) t₀) x (length es) t₀ 7 t₀
     unfolding room_asked
     no_room ne = no_to 7 room [] x (length es) t₀ (λ e. omega (arith, e)) (go room refl)
       where
@@ -77,20 +83,39 @@ module _ (x : Settings) (ws os es : List ℕ) (scratch : ℕ) (h : Entered ws os
         go true e = absurd (ne (room_fits x ws es h.spaced.few h.entries after (length os) r told (leb-true _ _ e)))
         go false e = e
 
-    module _ (n : ℕ) (fits : r ≡ F.Fits n) (as_long : length after ≡ length es) where
+    -- That is its refusal's number, since there are rows.
+    judged_seven : (e : Refusal) → r ≡ Err e → refusal_number e ≡ 7
+    unfolding fits_rows
+    judged_seven e er = go room₂ refl
+      where
+        room₂ : Bool
+        room₂ = leb (octants_of x.bucket depths (view es)) (octant_rows current (length os))
+
+        numbered : refusal_number e ≡ first_no (asks 7 room₂ ∷ [])
+        unfolding room₂
+        numbered = sym (ap answer_number er) ∙ told.number ∙ first_yes 6 _ _ (le-leb (length es) (sample_rows current (length ws)) h.spaced.few)
+
+        go : (b : Bool) → room₂ ≡ b → refusal_number e ≡ 7
+        go true k = absurd (refusal_numbered e (numbered ∙ alone_yes 7 room₂ k))
+        go false k = numbered ∙ first_no_lem 7 room₂ [] k
+
+    pub refused_room : (e : Refusal) → r ≡ Err e → (q : Result (Unit {0}) Refusal) → q ≡ Err e
+        → Rebuilt (room_asked x (length es) t₀) x (length es) t₀ (answer_number q) t₀
+    refused_room e er q eq = at_number (ap answer_number eq ∙ judged_seven e er) (no_room (refused_numbered r e er))
+
+    module _ (n : ℕ) (fits : r ≡ Ok n) (as_long : length after ≡ length es) where
       there_is_room : octants (set_of current ws x (length es)) ≤ octant_rows current (length os)
-      there_is_room = fits_room x ws es h.spaced.few h.entries after (length os) r told (ap fit_number fits)
+      there_is_room = fits_room x ws es h.spaced.few h.entries after (length os) r told (ap answer_number fits)
 
       -- One that fits is written.
       pub fit_to_write : Writable x ws (length os) after
-      unfolding fit_octants
       fit_to_write =
           record {
             sample_words_is = h.spaced.sample_words_is;
             octant_words_is = h.spaced.octant_words_is;
             few = omega (arith, as_long, h.spaced.few);
             order =
-                told.order n (ap fit_octants fits)
+                told.order n fits
                 ∙ ap (λ (l : List ℕ). order_of x.bucket depths (view l)) (h.entries ∙ ap (λ (m : ℕ). entries_of (samples_from current ws 0 m)) (sym as_long));
             room = subst (λ (m : ℕ). octants (set_of current ws x m) ≤ octant_rows current (length os)) (sym as_long) there_is_room;
           }

@@ -5,7 +5,9 @@ use mathlib.Core.List.{List, [], ◌∷◌}
 use mathlib.Core.Path.{◌≡◌, refl, sym, ap, ◌∙◌}
 use native.Mathlib.Nat.{sub-zero, zero-add, add-zero}
 use native.Mathlib.Omega.{arith}
-use borrow.Author.Tests.{lt-ltb, eq-eqb, ne_eqb, eqb-true}
+use borrow.Author.Tests.{lt-ltb, le-ltb, ltb-true, ltb-false, eq-eqb, ne_eqb, eqb-true}
+use Rattle.std.specs.Prelude.{Option, None, Some}
+use Rattle.std.specs.Option.{is_some}
 use lib.Dec.{eqb, ltb, leb-suc-suc}
 use lib.ListN.{length}
 use Rattle.colour.specs.declared.Sample.{Sample}
@@ -16,7 +18,7 @@ use Rattle.model.specs.Sound.{Distinct}
 use Rattle.model.proofs.Machine.Samples.{first_tag}
 use Rattle.words.specs.Rows.{sample_in, samples_from}
 use Rattle.words.proofs.Laws.Layout.Samples.{samples_length}
-use Rattle.samples.specs.Steps.{row_of_tag, without_row}
+use Rattle.samples.specs.Steps.{row_of_tag, row_found, found_if, without_row}
 
 -- A tag is known exactly where its place is among the samples.
 tag_placed : (t : ℕ) (xs : List Sample) → has_tag t xs ≡ ltb (row_of_tag t xs) (length xs)
@@ -32,6 +34,61 @@ tag_placed t (s ∷ xs) = go (eqb s.tag t) refl (tag_placed t xs)
 pub tag_in_rows : (tag n : ℕ) (ws : List ℕ) (row : ℕ) → row ≡ row_of_tag tag (samples_from current ws 0 n)
     → has_tag tag (samples_from current ws 0 n) ≡ ltb row n
 tag_in_rows tag n ws row placed = tag_placed tag (samples_from current ws 0 n) ∙ rw (samples_length ws n 0, ← placed)
+
+-- What is found by a test tells the test.
+found_told : (b : Bool) (r k : ℕ) → found_if b r ≡ Some k → (b ≡ true) × (r ≡ k)
+unfolding found_if
+found_told true r k e = (refl, cc)
+found_told false r k e = let z : ◌≡◌ {A = ℕ} 0 1 = cc in absurd (omega arith)
+
+found_untold : (b : Bool) (r : ℕ) → found_if b r ≡ None → b ≡ false
+unfolding found_if
+found_untold true r e = let z : ◌≡◌ {A = ℕ} 0 1 = cc in absurd (omega arith)
+found_untold false r e = refl
+
+found_known : (b : Bool) (r : ℕ) → is_some (found_if b r) ≡ b
+unfolding found_if
+found_known true r = refl
+found_known false r = refl
+
+-- The row that is found, and what it tells.
+module _ (t n : ℕ) (ws : List ℕ) where
+  abbrev xs₀ : List Sample
+  xs₀ = samples_from current ws 0 n
+
+  in_rows : has_tag t xs₀ ≡ ltb (row_of_tag t xs₀) n
+  in_rows = tag_in_rows t n ws (row_of_tag t xs₀) refl
+
+  pub row_there : (row : ℕ) → row ≡ row_of_tag t xs₀ → row < n → Some row ≡ row_found t xs₀
+  unfolding row_found found_if
+  row_there row e h = sym (ap (λ (b : Bool). found_if b (row_of_tag t xs₀)) (tag_in_rows t n ws row e ∙ lt-ltb row n h) ∙ ap Some (sym e))
+
+  pub row_missing : n ≡ row_of_tag t xs₀ → None ≡ row_found t xs₀
+  unfolding row_found found_if
+  row_missing e =
+      let same : n ≤ n = omega arith in
+      sym (ap (λ (b : Bool). found_if b (row_of_tag t xs₀)) (tag_in_rows t n ws n e ∙ le-ltb n n same))
+
+  pub row_told : (k : ℕ) → row_found t xs₀ ≡ Some k → (k ≡ row_of_tag t xs₀) × (k < n)
+  unfolding row_found
+  row_told k e =
+      let f = found_told (has_tag t xs₀) (row_of_tag t xs₀) k e in
+      let below : row_of_tag t xs₀ < n = ltb-true (row_of_tag t xs₀) n (sym in_rows ∙ f.0) in
+      (sym f.1, omega (arith, f.1, below))
+
+  pub row_untold : row_found t xs₀ ≡ None → n ≤ row_of_tag t xs₀
+  unfolding row_found
+  row_untold e = ltb-false (row_of_tag t xs₀) n (sym in_rows ∙ found_untold (has_tag t xs₀) (row_of_tag t xs₀) e)
+
+  pub row_known : {o : Option ℕ} {known : Bool} → o ≡ row_found t xs₀ → known ≡ is_some o → known ≡ ltb (row_of_tag t xs₀) n
+  unfolding row_found
+  row_known e k = k ∙ ap is_some e ∙ found_known (has_tag t xs₀) (row_of_tag t xs₀) ∙ in_rows
+
+  pub row_is : {o : Option ℕ} {known : Bool} → o ≡ row_found t xs₀ → known ≡ is_some o → known ≡ true → row_of_tag t xs₀ < n
+  row_is e k y = ltb-true (row_of_tag t xs₀) n (sym (row_known e k) ∙ y)
+
+  pub row_is_not : {o : Option ℕ} {known : Bool} → o ≡ row_found t xs₀ → known ≡ is_some o → known ≡ false → n ≤ row_of_tag t xs₀
+  row_is_not e k y = ltb-false (row_of_tag t xs₀) n (sym (row_known e k) ∙ y)
 
 module _ (t : ℕ) where
   -- Whether a sample stays when the tag's is removed.

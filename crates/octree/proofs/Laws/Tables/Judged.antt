@@ -24,7 +24,8 @@ use Rattle.words.proofs.Laws.Layout.Places.{rows_few}
 use Rattle.words.proofs.Laws.Layout.Samples.{samples_length}
 use Rattle.std.specs.Prelude.{Result, Ok, Err}
 use Rattle.order.specs.Entries.{entries_of, view}
-use Rattle.octree.specs.Steps.{Ordered, RowsOnce, sample_table_by, octant_table_by, SameTables, Writable, Listed, fits_rows, fit_number, Judged}
+use Rattle.octree.specs.Steps.{Ordered, RowsOnce, sample_table_by, octant_table_by, SameTables, Writable, Listed, fits_rows, Judged}
+use Rattle.colour.specs.Refusal.{answer_number}
 use Rattle.octree.proofs.Laws.Tables.Tagless.{entries_octants, InOrder, is_ordered, same_octants, sample_table, octant_table, rows_once}
 
 -- Questions 6 and 7 for a list of samples.
@@ -84,8 +85,8 @@ module _ {s : Settings} {ws : List ℕ} (os : List ℕ) {es : List ℕ} (w : Wri
   tables_written ws' os' d e = ap₂ pair (d ∙ sample_table written_order (length ws)) (e ∙ octant_table written_order (length os))
 
 -- A refusal has a number.
-pub unfit : (r : Result ℕ Refusal) (q : Refusal) → r ≡ Err q → fit_number r ≡ 0 → ⊥
-unfit r q e z = refusal_numbered q (sym (ap fit_number e) ∙ z)
+pub unfit : (r : Result ℕ Refusal) (q : Refusal) → r ≡ Err q → answer_number r ≡ 0 → ⊥
+unfit r q e z = refusal_numbered q (sym (ap answer_number e) ∙ z)
 
 -- Entries of the samples in the first rows, judged: these find rows, so that question 7 alone is left, and it asks the set that the rows say.
 module _ (s : Settings) (ws es : List ℕ) (few : length es ≤ sample_rows current (length ws))
@@ -100,17 +101,17 @@ module _ (s : Settings) (ws es : List ℕ) (few : length es ≤ sample_rows curr
       ∙ entries_octants s (samples_from current ws 0 (length es)) samples_few
 
   module _ (after : List ℕ) (octant_length : ℕ) (r : Result ℕ Refusal) (told : Judged s.bucket es after (length ws) octant_length r) where
-    room_number : fit_number r ≡ first_no (asks 7 (leb (octants (set_of current ws s (length es))) (octant_rows current octant_length)) ∷ [])
+    room_number : answer_number r ≡ first_no (asks 7 (leb (octants (set_of current ws s (length es))) (octant_rows current octant_length)) ∷ [])
     unfolding fits_rows
     room_number =
         told.number
         ∙ first_yes 6 (leb (length es) (sample_rows current (length ws))) _ (le-leb (length es) (sample_rows current (length ws)) few)
         ∙ ap (λ (m : ℕ). first_no (asks 7 (leb m (octant_rows current octant_length)) ∷ [])) rows_octants
 
-    pub fits_room : fit_number r ≡ 0 → octants (set_of current ws s (length es)) ≤ octant_rows current octant_length
+    pub fits_room : answer_number r ≡ 0 → octants (set_of current ws s (length es)) ≤ octant_rows current octant_length
     fits_room e = leb-true _ _ (asked 7 _ [] (λ z. omega (arith, z)) (sym room_number ∙ e)).0
 
-    pub room_fits : octants (set_of current ws s (length es)) ≤ octant_rows current octant_length → fit_number r ≡ 0
+    pub room_fits : octants (set_of current ws s (length es)) ≤ octant_rows current octant_length → answer_number r ≡ 0
     unfolding first_no
     room_fits h = room_number ∙ alone_yes 7 _ (le-leb _ _ h)
 
@@ -122,7 +123,7 @@ module _ {s : Settings} {ws os es after : List ℕ} {scratch : ℕ} (listed : Li
   listed_octants : octants_of s.bucket depths (view es) ≡ octants (set_of current ws s (length es))
   listed_octants = rows_octants s ws es listed.headed.few listed.entries
 
-  pub not_fitting : (fit_number r ≡ 0 → ⊥) → (false ≡ true) ↔ Same
+  pub not_fitting : (answer_number r ≡ 0 → ⊥) → (false ≡ true) ↔ Same
   not_fitting ne = says_no (λ same. ne (room_fits s ws es listed.headed.few listed.entries after (length os) r told same.octants_fit))
 
   module _ {n : ℕ} (fits : r ≡ Ok n) (as_long : length after ≡ length es) where
@@ -149,7 +150,7 @@ module _ {s : Settings} {ws os es after : List ℕ} {scratch : ℕ} (listed : Li
 
     pub judged_room : n ≤ octant_rows current (length os)
     judged_room =
-        omega (arith, octants_said, listed_octants, fits_room s ws es listed.headed.few listed.entries after (length os) r told (ap fit_number fits))
+        omega (arith, octants_said, listed_octants, fits_room s ws es listed.headed.few listed.entries after (length os) r told (ap answer_number fits))
 
     sample_words_are : sample_table_by (length ws) (settings_in current ws) (view after) (samples_from current ws 0 (length after))
         ≡ (tables_for current (set_of current ws s (length es)) (length ws) (length os)).samples

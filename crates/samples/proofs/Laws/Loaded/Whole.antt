@@ -1,32 +1,37 @@
 -- Load as a whole. Without a good header nothing changes. With one, lines are put in rows, the longest run of them that is a set
 -- which fits is kept, its tables are built, and the load says why it ends there.
 use Prim.Native.Nat.{ℕ, suc, ◌+◌, ◌-◌, ◌≤◌}
-use mathlib.Core.List.{List, [], ◌++◌, append-nil}
+use mathlib.Core.List.{List, [], ◌∷◌, ◌++◌, append-nil}
 use Rattle.std.specs.Prelude.{None, Some}
-use mathlib.Core.Path.{◌≡◌, sym, ap, ap₂, ◌∙◌, subst}
+use mathlib.Core.Path.{◌≡◌, sym, ap, ap₂, ◌∙◌, subst, subst⁻¹}
 use native.Mathlib.Nat.{zero-add, add-zero, add-suc}
 use native.Mathlib.Omega.{arith}
 use lib.ListN.{length, take}
 use lib.Seq.{take-append-add}
 use Rattle.colour.specs.declared.Sample.{Sample}
 use Rattle.colour.specs.declared.Settings.{Settings}
-use Rattle.colour.specs.declared.refusal.Refusal.TheVariants as R
+use Rattle.colour.specs.declared.refusal.Refusal.{Refusal}
+use Rattle.colour.specs.Question.{asks, first_no}
+use Rattle.colour.specs.Refusal.{refusal_number}
 use Rattle.colour.proofs.Laws.Questions.{first_no_lem, alone_yes}
-use Rattle.sheet.specs.Column.{present}
-use Rattle.sheet.specs.Sheet.{line_start, line_count, lines_from, lines_by, lines_of}
+use Rattle.std.specs.Option.{is_some}
+use Rattle.sheet.specs.Sheet.{HeaderAnswer, read_header, line_start, line_count, lines_from, lines_by, lines_of}
 use Rattle.sheet.proofs.Laws.Ranges.{lines_ranged}
 use Rattle.sheet.proofs.Laws.Reading.Header.{formed}
 use Rattle.model.specs.Layout.{current, sample_rows}
 use Rattle.model.specs.Tables.{Tables, pair}
 use Rattle.model.specs.Machine.{Machine, Change, Load, Outcome, load_answer, plain, nearest_answer, with_set, with_samples, questions, accepted, step, next_state, tables_of}
 use Rattle.model.specs.Sound.{Shows, Sound, Distinct}
+use Rattle.model.specs.Meets.{Follows}
 use Rattle.model.proofs.Machine.Samples.{front_range, both_range}
 use Rattle.model.proofs.Machine.Step.{step_accepted}
 use Rattle.words.specs.Rows.{count_in, settings_in, samples_from}
 use Rattle.words.proofs.Laws.Layout.Samples.{samples_length, samples_take}
 use Rattle.octree.proofs.Laws.Tables.Check.{sample_length_lem, count_shown}
-use Rattle.std.specs.Prelude.{Ok, Err}
-use Rattle.samples.specs.Answers.{loaded_answer}
+use Rattle.std.specs.Prelude.{Result, Ok, Err}
+use Rattle.sheet.specs.Answers.{header_answer}
+use Rattle.samples.specs.Answers.{loaded_answer, before_lines}
+use Rattle.samples.specs.declared.answers.Stop.{Stop}
 use Rattle.samples.specs.Rebuilding.{codes_asked, Rebuilt, Space}
 use Rattle.samples.specs.Steps.{FollowsAll, Acceptable, Longest, LinesPut, Stopped, good_samples, stop_number}
 use Rattle.samples.proofs.Laws.Meets.{refused_follows}
@@ -41,10 +46,15 @@ pub sheet_whole : (sheet : List ℕ) (lines : ℕ) → line_count sheet ≡ Some
 sheet_whole sheet lines e = omega (arith, (formed sheet lines e).whole)
 
 -- Question 11: without one nothing changes.
-pub not_headed : (t : Tables) (sheet : List ℕ) → None ≡ line_count sheet → FollowsAll (Load sheet) t (loaded_answer (Err (record { refusal = R.Header; taken = 0 }))) t
-unfolding loaded_answer load_answer plain nearest_answer questions present
-not_headed t sheet e m shows =
-    refused_follows m (Load sheet) t 11 (first_no_lem 11 (present (line_count sheet)) [] (rw (← e))) (λ z. omega (arith, z)) shows.words
+pub not_headed : (t : Tables) (sheet : List ℕ) (r : Refusal) → header_answer (Err r) ≡ read_header sheet
+    → FollowsAll (Load sheet) t (loaded_answer (Err (before_lines r))) t
+unfolding loaded_answer load_answer plain nearest_answer questions header_answer read_header
+not_headed t sheet r told m shows =
+    let no : None ≡ line_count sheet = ap (λ (a : HeaderAnswer). a.lines) told in
+    let e : first_no (asks 11 (is_some (line_count sheet)) ∷ []) ≡ 11 = first_no_lem 11 (is_some (line_count sheet)) [] (rw (← no)) in
+    let n : refusal_number r ≡ 11 = ap (λ (a : HeaderAnswer). a.number) told ∙ e in
+    subst⁻¹ (λ (k : ℕ). Follows m (Change (Load sheet)) (load_answer k 0) t) n
+    (refused_follows m (Load sheet) t 11 e (λ z. omega (arith, z)) shows.words)
 
 -- Lines put after the first n rows.
 module _ (n : ℕ) (ws sheet : List ℕ) (lines put : ℕ) (ws' : List ℕ) (told : LinesPut n ws sheet lines put ws') where
@@ -117,12 +127,12 @@ module _ (ws os sheet : List ℕ) (lines : ℕ) (x : Settings) (n put : ℕ) (ws
     machine_takes : line_count sheet ≡ Some lines → (j : ℕ) → j ≤ put → Acceptable x ws' (length os) (n + j)
         → ((j ≡ put → ⊥) → Acceptable x ws' (length os) (n + suc j) → ⊥)
         → step m (Change (Load sheet)) ≡ ended m (with_more j) j (lines_from sheet j (lines - j))
-    unfolding questions accepted lines_of lines_by present with_samples with_set
+    unfolding questions accepted lines_of lines_by with_samples with_set
     machine_takes header j h a never =
         let room : sample_rows current (length ws) - n ≡ sample_rows current m.sample_length - length m.set.samples =
         ap₂ (λ (l k : ℕ). sample_rows current l - k) (sample_length_lem ws os m shows) (counted ∙ count_shown ws os m shows) in
         let few : j ≤ lines = omega (arith, h, put_most n ws sheet lines put ws' told) in
-        step_accepted m (Change (Load sheet)) (alone_yes 11 (present (line_count sheet)) (rw header))
+        step_accepted m (Change (Load sheet)) (alone_yes 11 (is_some (line_count sheet)) (rw header))
         ∙ rw header
         (load_stops m j (lines_from sheet 0 lines) m.set.samples 0 (sample_rows current (length ws) - n) room (omega (arith, h, told.many)) (more_fit j h a)
         (λ ne f. never (λ z. ne (z ∙ told.many)) (fit_more (suc j) (omega (arith, h, ne, told.many)) f))
@@ -154,7 +164,7 @@ module _ (ws os sheet : List ℕ) (lines : ℕ) (x : Settings) (n put : ℕ) (ws
         asks_rebuild k h = space_for ws os sound k ws' long (omega (arith, h, asks_stopped.0, ap (sample_rows current) long))
 
     -- A load that keeps the first rows that are acceptable, and says why it ends there, is the machine's.
-    pub loads : (kept : ℕ) (r : Loaded) (number : ℕ) (t' : Tables)
+    pub loads : (kept : ℕ) (r : Result ℕ Stop) (number : ℕ) (t' : Tables)
         → Longest x ws' (length os) n (n + put) kept → Stopped kept ws' sheet lines (kept - n) r
         → Rebuilt (codes_asked x kept (pair ws' os)) x kept (pair ws' os) number t' → FollowsAll (Load sheet) (pair ws os) (loaded_answer r) t'
     unfolding loaded_answer ended next_state

@@ -1,5 +1,7 @@
 -- `add::add_coded`: questions 5 and 6, then the row.
 use native.Mathlib.Omega.{arith}
+use mathlib.Core.Path.{refl}
+use Rattle.samples.proofs.Laws.Tags.{row_is, row_is_not}
 use Rattle.model.proofs.Tables.Numbers.{current_numbers}
 use Rattle.samples.proofs.Laws.Added.{tag_refused, row_refused, now_adding}
 use Rattle.samples.proofs.Laws.Shown.{headers_there, rows_there}
@@ -15,16 +17,19 @@ row_of-requires c =
 
 pub returns-then-known : goal.returns-then-known
 returns-then-known c =
-    tag_refused c.args.samples.now c.args.octants.now c.args.s c.requires.1 _ c.count-n.ensures _ c.row_of.ensures c.if-known.true
+    tag_refused c.args.samples.now c.args.octants.now c.args.s c.requires.1 _ c.count-n.ensures _ refl
+    (row_is _ _ _ c.row_of.ensures c.is_some-known.ensures c.if-known.true)
 
 pub returns-then-full : goal.returns-then-full
 returns-then-full c =
-    row_refused c.args.samples.now c.args.octants.now c.args.s c.requires.1 _ c.count-n.ensures _ c.row_of.ensures c.if-known.false
+    row_refused c.args.samples.now c.args.octants.now c.args.s c.requires.1 _ c.count-n.ensures _ refl
+    (row_is_not _ _ _ c.row_of.ensures c.is_some-known.ensures c.if-known.false)
     (omega (arith, c.sample_rows.ensures.is, c.if-full.true))
 
 pub add_in_row-requires : goal.add_in_row-requires
 add_in_row-requires c =
-    now_adding c.args.samples.now c.args.octants.now c.args.s c.requires.1 _ c.count-n.ensures _ c.row_of.ensures c.if-known.false
+    now_adding c.args.samples.now c.args.octants.now c.args.s c.requires.1 _ c.count-n.ensures _ refl
+    (row_is_not _ _ _ c.row_of.ensures c.is_some-known.ensures c.if-known.false)
     c.requires.0 (omega (arith, c.sample_rows.ensures.is, c.if-full.false))
 
 pub returns : goal.returns

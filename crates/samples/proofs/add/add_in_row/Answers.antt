@@ -38,4 +38,4 @@ returns-in_default c =
 pub returns : goal.returns
 returns c =
     sample_added c.args.s c.args.n c.args.samples.now c.args.octants.now c.requires _ c.settings-settings.ensures _ c.put_sample.ensures _ _ _
-    c.rebuild.ensures (ap answer_number c.in-Done.is)
+    c.rebuild.ensures (ap answer_number c.in-Ok.is)

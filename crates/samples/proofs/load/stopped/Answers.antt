@@ -1,5 +1,7 @@
 -- `load::stopped`: each answer by the line where it is given.
 use native.Mathlib.Omega.{arith}
+use mathlib.Core.Path.{sym, ap, ◌∙◌}
+use Rattle.std.specs.Result.{result_ok}
 use lib.ListN.{length}
 use Rattle.sheet.specs.Answers.{line_answer}
 use Rattle.sheet.proofs.Laws.Reading.Lookup.{line_says}
@@ -23,26 +25,9 @@ line_at-requires c =
 pub returns-in_default : goal.returns-in_default
 unfolding line_answer
 returns-in_default c =
-    at_bad_line _ _ _ _ _ c.if-lines-taken.false (line_says _ _ _ c.in_default.is c.line_at.ensures)
+    at_bad_line _ _ _ _ _ c.if-lines-taken.false (sym (ap result_ok c.in_default.is) ∙ line_says _ _ c.line_at.ensures)
 
-pub returns-then-known : goal.returns-then-known
+pub returns-in-Ok : goal.returns-in-Ok
 unfolding line_answer
-returns-then-known c =
-    let e = line_says _ _ _ c.in-Good.is c.line_at.ensures in
-    at_known_tag _ _ _ _ _ _ c.if-lines-taken.false e _ c.row_of.ensures c.if-known.true
-
-pub returns-then-full : goal.returns-then-full
-unfolding line_answer
-returns-then-full c =
-    let n = c.args.n in
-    let e = line_says _ _ _ c.in-Good.is c.line_at.ensures in
-    at_no_row _ _ _ _ _ _ c.if-lines-taken.false e _ c.row_of.ensures c.if-known.false
-    (omega (arith, c.sample_rows.ensures.is, c.if-full.true))
-
-pub returns : goal.returns
-unfolding line_answer
-returns c =
-    let n = c.args.n in
-    let e = line_says _ _ _ c.in-Good.is c.line_at.ensures in
-    at_no_octants _ _ _ _ _ _ c.if-lines-taken.false e _ c.row_of.ensures c.if-known.false
-    (omega (arith, c.sample_rows.ensures.is, c.if-full.false))
+returns-in-Ok c =
+    ?

@@ -1,26 +1,30 @@
 -- `rebuild::rebuild_rows`: question 4 by filling in the entries.
-use mathlib.Core.Bool.{not}
-use mathlib.Core.Path.{ap}
-use Rattle.samples.proofs.Laws.Rebuilt.{no_codes, entered, with_codes}
+use mathlib.Core.Bool.{false}
+use Rattle.std.specs.Result.{is_ok}
+use Rattle.colour.specs.Refusal.{refusal_number, answer_number}
+use Rattle.colour.proofs.Laws.Refused.{passed_on}
+use mathlib.Core.Path.{refl, ap, ◌∙◌}
+use Rattle.samples.proofs.Laws.Rebuilt.{at_number, no_codes, entered, with_codes}
 use Rattle.samples.proofs.rebuild.rebuild_rows.Goals as goal
 
 pub fill-requires : goal.fill-requires
 fill-requires c =
     c.requires.few
 
-pub returns-then-not-fill : goal.returns-then-not-fill
-returns-then-not-fill c =
-    let f = c.fill in
-    no_codes _ _ c.args.samples.now c.args.octants.now f.result (ap not c.if-not-fill.true) f.ensures.complete
+pub returns-in_err-fill : goal.returns-in_err-fill
+returns-in_err-fill c =
+    let no = c.in_err-fill.ensures in
+    at_number (ap answer_number (passed_on c.in_err-fill.field-0.0 c.from_residual.result c.from_residual.ensures.1) ∙ ap refusal_number no.refusal)
+    (no_codes _ _ c.args.samples.now c.args.octants.now false refl no.made.complete)
 
 pub write_fitting-requires : goal.write_fitting-requires
 write_fitting-requires c =
     let f = c.fill in
-    let y = c.if-not-fill.false in
-    entered c.args.settings _ c.args.samples.now c.args.octants.now _ f.auto.entries (f.ensures.in_range y) _ c.requires (f.ensures.entries y)
+    let y = ap is_ok c.in_ok-fill.was in
+    entered c.args.settings _ c.args.samples.now c.args.octants.now _ f.auto.entries (f.ensures.made.in_range y) _ c.requires (f.ensures.made.entries y)
 
 pub returns : goal.returns
 returns c =
     let f = c.fill in
     let w = c.write_fitting in
-    with_codes _ _ c.args.samples.now c.args.octants.now f.new.entries f.auto.entries (f.ensures.in_range c.if-not-fill.false) _ _ w.ensures
+    with_codes _ _ c.args.samples.now c.args.octants.now f.new.entries f.auto.entries (f.ensures.made.in_range (ap is_ok c.in_ok-fill.was)) _ _ w.ensures

@@ -1,5 +1,15 @@
 -- `remove::remove_sound`: the row of the tag closed, then both tables rebuilt.
 use native.Mathlib.Omega.{arith}
+use mathlib.Core.Path.{◌≡◌, refl, sym, ap, subst⁻¹, ◌∙◌}
+use Rattle.std.specs.Prelude.{Result, Ok, Err}
+use Rattle.colour.specs.declared.refusal.Refusal.{Refusal}
+use Rattle.colour.specs.declared.refusal.Refusal.TheVariants as R
+use Rattle.colour.proofs.Laws.Refused.{passed_on, refused_by}
+use Rattle.model.specs.Tables.{pair}
+use Rattle.model.specs.Machine.{Remove}
+use Rattle.samples.specs.Answers.{changed_answer}
+use Rattle.samples.specs.Steps.{FollowsAll}
+use Rattle.samples.proofs.Laws.Tags.{row_told, row_untold}
 use Rattle.model.proofs.Tables.Numbers.{current_numbers}
 use Rattle.samples.proofs.Laws.Removed.{unknown_tag, tag_removed}
 use Rattle.samples.proofs.Laws.Shown.{headers_there, rows_there, space_for}
@@ -13,18 +23,22 @@ pub count-n-requires : goal.count-n-requires
 count-n-requires c =
     omega (arith, current_numbers.sample_header_is, (headers_there _ _ c.requires).0)
 
-pub row_of-row-requires : goal.row_of-row-requires
-row_of-row-requires c =
+pub row_of-requires : goal.row_of-requires
+row_of-requires c =
     rows_there _ _ c.requires _ c.count-n.ensures
 
-pub returns-then-n-row : goal.returns-then-n-row
-returns-then-n-row c =
-    unknown_tag c.args.samples.now c.args.octants.now _ _ _ _ c.settings-settings.ensures c.count-n.ensures c.row_of-row.ensures
-    c.if-n-row.true
+pub returns-in_err-row : goal.returns-in_err-row
+returns-in_err-row c =
+    let none = c.in_err-row.ensures.ok_part in
+    let by = refused_by R.UnknownTag c.in_err-row.field-0.0 none c.in_err-row.ensures.value in
+    subst⁻¹ (λ (r : Result (Unit {0}) Refusal). FollowsAll (Remove c.args.tag) (pair c.args.samples.now c.args.octants.now) (changed_answer r) (pair c.args.samples.now c.args.octants.now))
+    (passed_on c.in_err-row.field-0.0 c.from_residual.result c.from_residual.ensures.1 ∙ ap Err by)
+    (unknown_tag c.args.samples.now c.args.octants.now _ _ _ _ c.settings-settings.ensures c.count-n.ensures refl
+    (row_untold _ _ _ (sym c.row_of.ensures ∙ none)))
 
 pub close_row-requires : goal.close_row-requires
 close_row-requires c =
-    (c.if-n-row.false, rows_there _ _ c.requires _ c.count-n.ensures)
+    ((row_told _ _ _ _ (sym c.row_of.ensures ∙ c.in_ok-row.ensures.ok_part)).1, rows_there _ _ c.requires _ c.count-n.ensures)
 
 pub rebuild-requires : goal.rebuild-requires
 rebuild-requires c =
@@ -33,5 +47,6 @@ rebuild-requires c =
 
 pub returns : goal.returns
 returns c =
-    tag_removed c.args.samples.now c.args.octants.now _ _ _ _ c.settings-settings.ensures c.count-n.ensures c.row_of-row.ensures
-    _ _ _ c.if-n-row.false c.close_row.auto.samples c.close_row.ensures c.rebuild.ensures
+    let row = row_told _ _ _ _ (sym c.row_of.ensures ∙ c.in_ok-row.ensures.ok_part) in
+    tag_removed c.args.samples.now c.args.octants.now _ _ _ _ c.settings-settings.ensures c.count-n.ensures row.0
+    _ _ _ row.1 c.close_row.auto.samples c.close_row.ensures c.rebuild.ensures
