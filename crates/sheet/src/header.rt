@@ -4,15 +4,18 @@ ghost use Rattle.sheet.specs.Answers.{header_answer, line_answer};
 ghost use Rattle.sheet.specs.Line.{read_line};
 ghost use Rattle.sheet.specs.Sheet.{line_start, line_part, line_count, read_header};
 
-use crate::column::read_number;
+use crate::column::Columns;
 use crate::line::{LINE_LENGTH, Line, read_line};
 use colour::refusal::Refusal;
 
 const TITLE_LENGTH: usize = 8;
 
-const COUNT_COLUMNS: usize = 6;
+const COUNT: Columns = Columns {
+    start: TITLE_LENGTH,
+    width: 6,
+};
 
-const COUNT_END: usize = TITLE_LENGTH + COUNT_COLUMNS;
+const COUNT_END: usize = COUNT.start + COUNT.width;
 
 // Where line 0 starts.
 const HEADER_LENGTH: usize = COUNT_END + 1;
@@ -32,7 +35,7 @@ fn line_count(sheet: &[u8]) -> Option<usize>
     if HEADER_LENGTH + LINE_LENGTH * lines != sheet.len() {
         return None;
     }
-    let count = read_number(&sheet[TITLE_LENGTH..COUNT_END], lines as u64)?;
+    let count = COUNT.read(sheet, lines as u64)?;
     if count != lines as u64 {
         return None;
     }
