@@ -50,6 +50,7 @@ pub fn read_header(sheet: &[u8]) -> Result<usize, Refusal>
 }
 
 // Where line k starts.
+#[tactic(auto, using(crate::proofs::Laws::Numbers::line_start_is))]
 pub fn line_start(k: usize) -> usize
     requires { line_start k < 2 ^ 64 }
     ensures { result ≡ line_start k }
@@ -58,6 +59,7 @@ pub fn line_start(k: usize) -> usize
 }
 
 // What line k of a sheet says. The line is handed on as a part of the sheet that starts in its middle.
+#[tactic(auto, using(crate::proofs::Laws::Reading::Header::line_ends), unfolding(crate::specs::Computes::sheet_numbers))]
 pub fn line_at(sheet: &[u8], k: usize) -> Result<Line, Refusal>
     requires { line_start (suc k) ≤ length sheet.now }
     ensures { line_answer result ≡ read_line (line_part sheet.now k) }

@@ -55,6 +55,7 @@ pub struct Line {
 }
 
 // The length of the name in its columns, if they are a good name and blanks after.
+#[tactic(auto, using(crate::proofs::Laws::Text::leading_most))]
 fn name_length(field: &[u8]) -> Option<usize>
     requires { length field.now ≤ name_columns }
     ensures { result ≡ name_length_in field.now }
@@ -68,7 +69,7 @@ fn name_length(field: &[u8]) -> Option<usize>
 }
 
 // What a line's numbers say, beside a name of the length given.
-#[tactic(auto, unfolding(crate::specs::Computes::sheet_numbers))]
+#[tactic(auto, using(crate::proofs::Laws::Reading::Digits::within_some), unfolding(crate::specs::Computes::sheet_numbers))]
 fn numbers(line: &[u8], name_length: usize) -> Option<Line>
     requires { length line.now ≡ line_length }
     ensures { result ≡ line_numbers line.now name_length }
@@ -91,6 +92,7 @@ fn numbers(line: &[u8], name_length: usize) -> Option<Line>
 }
 
 // What a line says, if it is good.
+#[tactic(auto, unfolding(crate::specs::Computes::sheet_numbers))]
 fn line_of(line: &[u8]) -> Option<Line>
     ensures { result ≡ line_of line.now }
 {

@@ -45,6 +45,7 @@ fn put_numbers(sample: Sample, line: &mut [u8])
 }
 
 // Writes a line whose name fits over the first bytes of those lent.
+#[tactic(auto, unfolding(crate::specs::Computes::sheet_numbers))]
 fn put_line(sample: Sample, name: &[u8], line: &mut [u8])
     requires { (length name.now ≤ name_columns) × (line_length ≤ length line.old) }
     ensures { line.new ≡ line_bytes sample name.now ++ drop line_length line.old }
@@ -56,6 +57,7 @@ fn put_line(sample: Sample, name: &[u8], line: &mut [u8])
 }
 
 // The first of the writer's questions that has a no: the refusal of question 4, 10 or 13.
+#[tactic(auto, unfolding(colour::specs::Question::first_no))]
 fn first_no(codes: bool, name: bool, room: bool) -> Result<(), Refusal>
     ensures { written_number result ≡ first_no (asks 4 codes ∷ asks 10 name ∷ asks 13 room ∷ []) }
 {

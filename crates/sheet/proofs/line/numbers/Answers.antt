@@ -1,10 +1,7 @@
 -- `line::numbers`: what the columns hold, by laws of Laws.Reading.Lines.
-use native.Mathlib.Omega.{arith}
 use Rattle.colour.specs.Colour.{Red, Green, Blue, code_in}
 use Rattle.sheet.specs.Computes.{sheet_numbers}
 use Rattle.sheet.specs.Line.{code_column, line_numbers}
-use Rattle.sheet.specs.Steps.{greatest_tag, greatest_code}
-use Rattle.sheet.proofs.Laws.Reading.Digits.{within_some}
 use Rattle.sheet.proofs.Laws.Reading.Lines.{no_tag, no_code, all_numbers}
 use Rattle.sheet.proofs.line.numbers.Goals as goal
 
@@ -27,22 +24,6 @@ pub returns-in_err-blue : goal.returns-in_err-blue
 unfolding line_numbers code_column sheet_numbers
 returns-in_err-blue c =
     rw c.from_residual-in_err-blue.ensures (no_code _ _ _ _ _ Blue c.in_err-blue.ensures)
-
-pub overflow_cast-result : goal.overflow_cast-result
-overflow_cast-result c =
-    omega (arith, (within_some greatest_tag _ _ c.in_ok-tag.ensures).1)
-
-pub overflow_cast-result-2 : goal.overflow_cast-result-2
-overflow_cast-result-2 c =
-    omega (arith, (within_some greatest_code _ _ c.in_ok-red.ensures).1)
-
-pub overflow_cast-result-3 : goal.overflow_cast-result-3
-overflow_cast-result-3 c =
-    omega (arith, (within_some greatest_code _ _ c.in_ok-green.ensures).1)
-
-pub overflow_cast-result-4 : goal.overflow_cast-result-4
-overflow_cast-result-4 c =
-    omega (arith, (within_some greatest_code _ _ c.in_ok-blue.ensures).1)
 
 pub returns : goal.returns
 unfolding line_numbers code_column sheet_numbers code_in
