@@ -9,6 +9,8 @@ use crate::text::{blanks, name_bytes};
 use colour::refusal::Refusal;
 use colour::{Colour, Sample};
 
+const CODE_WIDTH: usize = 6;
+
 // The columns of a line: its numbers, a blank, the name and a newline.
 pub const TAG: Columns = Columns {
     start: 0,
@@ -29,8 +31,6 @@ pub const BLUE: Columns = Columns {
     start: GREEN.start + CODE_WIDTH,
     width: CODE_WIDTH,
 };
-
-const CODE_WIDTH: usize = 6;
 
 pub const BLANK_AT: usize = BLUE.start + CODE_WIDTH;
 
