@@ -1,9 +1,34 @@
 // Numbers in columns, read and written.
-ghost use Rattle.std.specs.Prelude.{[], ◌∷◌, ◌≡◌, length};
+ghost use Rattle.std.specs.Prelude.{[], ◌∷◌, ◌≡◌, ◌+◌, ◌≤◌, length, take, drop};
 ghost use Rattle.sheet.specs.Column.{digits_after, decimal_in, column_number, column_of};
-ghost use Rattle.sheet.specs.Steps.{within};
+ghost use Rattle.sheet.specs.Steps.{within, put_at};
 
 use crate::text::blanks;
+
+// Columns of a text that hold a number: where they start, and how many they are.
+#[derive(Clone, Copy)]
+pub struct Columns {
+    pub start: usize,
+    pub width: usize,
+}
+
+impl Columns {
+    // The number in them, if it is at most `most`.
+    pub fn read(self, text: &[u8], most: u64) -> Option<u64>
+        requires { self.start + self.width ≤ length text.now }
+        ensures { result ≡ within most (column_number (take self.width (drop self.start text.now))) }
+    {
+        read_number(&text[self.start..self.start + self.width], most)
+    }
+
+    // Writes a number into them.
+    pub fn put(self, text: &mut [u8], n: u64)
+        requires { self.start + self.width ≤ length text.old }
+        ensures { text.new ≡ put_at self.start (column_of self.width n) text.old }
+    {
+        put_number(&mut text[self.start..self.start + self.width], n);
+    }
+}
 
 // The number that n followed by one digit gives, if it is at most `most`; tested before it is worked out, so that nothing
 // overflows however many digits there are.

@@ -4,15 +4,18 @@ ghost use Rattle.sheet.specs.Answers.{header_answer, line_answer};
 ghost use Rattle.sheet.specs.Line.{read_line};
 ghost use Rattle.sheet.specs.Sheet.{line_start, line_part, line_count, read_header};
 
-use crate::column::read_number;
+use crate::column::Columns;
 use crate::line::{LINE_LENGTH, Line, read_line};
 use colour::refusal::Refusal;
 
 const TITLE_LENGTH: usize = 8;
 
-const COUNT_COLUMNS: usize = 6;
+const COUNT: Columns = Columns {
+    start: TITLE_LENGTH,
+    width: 6,
+};
 
-const COUNT_END: usize = TITLE_LENGTH + COUNT_COLUMNS;
+const COUNT_END: usize = COUNT.start + COUNT.width;
 
 // Where line 0 starts.
 const HEADER_LENGTH: usize = COUNT_END + 1;
@@ -32,7 +35,7 @@ fn line_count(sheet: &[u8]) -> Option<usize>
     if HEADER_LENGTH + LINE_LENGTH * lines != sheet.len() {
         return None;
     }
-    let count = read_number(&sheet[TITLE_LENGTH..COUNT_END], lines as u64)?;
+    let count = COUNT.read(sheet, lines as u64)?;
     if count != lines as u64 {
         return None;
     }
@@ -47,6 +50,7 @@ pub fn read_header(sheet: &[u8]) -> Result<usize, Refusal>
 }
 
 // Where line k starts.
+#[tactic(auto, using(crate::proofs::Laws::Numbers::line_start_is))]
 pub fn line_start(k: usize) -> usize
     requires { line_start k < 2 ^ 64 }
     ensures { result ≡ line_start k }
@@ -55,6 +59,7 @@ pub fn line_start(k: usize) -> usize
 }
 
 // What line k of a sheet says. The line is handed on as a part of the sheet that starts in its middle.
+#[tactic(auto, using(crate::proofs::Laws::Reading::Header::line_ends), unfolding(crate::specs::Computes::sheet_numbers))]
 pub fn line_at(sheet: &[u8], k: usize) -> Result<Line, Refusal>
     requires { line_start (suc k) ≤ length sheet.now }
     ensures { line_answer result ≡ read_line (line_part sheet.now k) }

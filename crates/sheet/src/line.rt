@@ -1,28 +1,40 @@
 // A line: its columns, and what it says.
-ghost use Rattle.std.specs.Prelude.{◌≡◌, ◌+◌, ◌≤◌, length};
+ghost use Rattle.std.specs.Prelude.{◌≡◌, ◌≤◌, length};
 ghost use Rattle.sheet.specs.Answers.{line_answer};
-ghost use Rattle.sheet.specs.Line.{code_columns, name_columns, line_length, code_column, line_numbers, line_of, read_line};
-ghost use Rattle.sheet.specs.Steps.{within, name_length_in, greatest_code};
+ghost use Rattle.sheet.specs.Line.{name_columns, line_length, line_numbers, line_of, read_line};
+ghost use Rattle.sheet.specs.Steps.{name_length_in};
 
-use crate::column::read_number;
+use crate::column::Columns;
 use crate::text::{blanks, name_bytes};
 use colour::refusal::Refusal;
 use colour::{Colour, Sample};
 
-// The columns of a line, and where each starts.
-pub const TAG_COLUMNS: usize = 10;
+const CODE_WIDTH: usize = 6;
 
-pub const CODE_COLUMNS: usize = 6;
+// The columns of a line: its numbers, a blank, the name and a newline.
+pub const TAG: Columns = Columns {
+    start: 0,
+    width: 10,
+};
+
+pub const RED: Columns = Columns {
+    start: TAG.start + TAG.width,
+    width: CODE_WIDTH,
+};
+
+pub const GREEN: Columns = Columns {
+    start: RED.start + CODE_WIDTH,
+    width: CODE_WIDTH,
+};
+
+pub const BLUE: Columns = Columns {
+    start: GREEN.start + CODE_WIDTH,
+    width: CODE_WIDTH,
+};
+
+pub const BLANK_AT: usize = BLUE.start + CODE_WIDTH;
 
 pub const NAME_COLUMNS: usize = 32;
-
-pub const RED_START: usize = TAG_COLUMNS;
-
-pub const GREEN_START: usize = RED_START + CODE_COLUMNS;
-
-pub const BLUE_START: usize = GREEN_START + CODE_COLUMNS;
-
-pub const BLANK_AT: usize = BLUE_START + CODE_COLUMNS;
 
 pub const NAME_START: usize = BLANK_AT + 1;
 
@@ -43,6 +55,7 @@ pub struct Line {
 }
 
 // The length of the name in its columns, if they are a good name and blanks after.
+#[tactic(auto, using(crate::proofs::Laws::Text::leading_most))]
 fn name_length(field: &[u8]) -> Option<usize>
     requires { length field.now ≤ name_columns }
     ensures { result ≡ name_length_in field.now }
@@ -55,23 +68,16 @@ fn name_length(field: &[u8]) -> Option<usize>
     Some(n)
 }
 
-// The code in the columns that start at `at`.
-fn code_at(line: &[u8], at: usize) -> Option<u64>
-    requires { at + code_columns ≤ length line.now }
-    ensures { result ≡ within greatest_code (code_column line.now at) }
-{
-    read_number(&line[at..at + CODE_COLUMNS], GREATEST_CODE)
-}
-
 // What a line's numbers say, beside a name of the length given.
+#[tactic(auto, using(crate::proofs::Laws::Reading::Digits::within_some), unfolding(crate::specs::Computes::sheet_numbers))]
 fn numbers(line: &[u8], name_length: usize) -> Option<Line>
     requires { length line.now ≡ line_length }
     ensures { result ≡ line_numbers line.now name_length }
 {
-    let tag = read_number(&line[..TAG_COLUMNS], GREATEST_TAG)?;
-    let red = code_at(line, RED_START)?;
-    let green = code_at(line, GREEN_START)?;
-    let blue = code_at(line, BLUE_START)?;
+    let tag = TAG.read(line, GREATEST_TAG)?;
+    let red = RED.read(line, GREATEST_CODE)?;
+    let green = GREEN.read(line, GREATEST_CODE)?;
+    let blue = BLUE.read(line, GREATEST_CODE)?;
     Some(Line {
         sample: Sample {
             tag: tag as u32,
@@ -86,6 +92,7 @@ fn numbers(line: &[u8], name_length: usize) -> Option<Line>
 }
 
 // What a line says, if it is good.
+#[tactic(auto, unfolding(crate::specs::Computes::sheet_numbers))]
 fn line_of(line: &[u8]) -> Option<Line>
     ensures { result ≡ line_of line.now }
 {

@@ -15,6 +15,7 @@ pub struct Part {
 
 // The part of a sheet that holds the name in the first line with the tag; none also if the header or any line is not good. A
 // line after the one wanted can be bad, so all are read.
+#[tactic(auto, using(crate::proofs::Laws::Reading::Header::line_ends), unfolding(crate::specs::Computes::sheet_numbers))]
 fn part_of(sheet: &[u8], tag: u32) -> Option<Part>
     ensures { unwrap_or result empty_part ≡ name_part sheet.now tag }
 {
@@ -40,6 +41,7 @@ pub fn name_part(sheet: &[u8], tag: u32) -> Part
 }
 
 // That part of the caller's own slice: an exported call.
+#[tactic(auto, using(crate::proofs::Laws::Reading::Lookup::name_within))]
 pub fn name_of(sheet: &[u8], tag: u32) -> &[u8]
     ensures { NameIn sheet.entry tag result }
 {

@@ -1,15 +1,15 @@
 -- Texts gone through byte by byte: the blanks before, the name bytes first, two texts compared (document 01, "Sheets").
 use Prim.Native.Nat.{ℕ, zero, suc, ◌+◌, ◌-◌, ◌≤◌, ◌<◌}
-use mathlib.Core.Bool.{Bool, true, false, and-false, and-eq-true_iff}
-use mathlib.Core.List.{List, [], ◌∷◌, ◌++◌, append-nil}
+use mathlib.Core.Bool.{Bool, true, false, and-eq-true_iff}
+use mathlib.Core.List.{List, [], ◌∷◌, ◌++◌}
 use mathlib.Core.Path.{◌≡◌, refl, sym, ap, ◌∙◌}
 use native.Mathlib.Numerals.{add-one}
 use native.Mathlib.Omega.{arith}
-use borrow.Author.Tests.{eq-eqb, ne_eqb, eqb-true, eqb-false, le-leb, lt-leb, leb-true, ltb-false}
+use borrow.Author.Tests.{eq-eqb, ne_eqb, eqb-true, eqb-false, le-leb, leb-true, ltb-false}
 use lib.Dec.{eqb, leb, ltb}
 use lib.ListN.{length, drop, get_or, replicate, length-append, length-replicate}
 use lib.Pointwise.{pointwise}
-use lib.Seq.{drop-cons, drop-length, drop_at}
+use lib.Seq.{drop-cons, drop_at}
 use Rattle.std.specs.Prelude.{None, Some, cond, not, position}
 use Rattle.std.specs.List.{position_or_len}
 use Rattle.std.specs.Option.{unwrap_or}
@@ -22,16 +22,8 @@ use Rattle.sheet.specs.Sheet.{same_bytes}
 pub next_byte : (s : List ℕ) (i : ℕ) → i < length s → drop i s ≡ get_or s i 0 ∷ drop (i + 1) s
 next_byte s i h = rw (add-one, drop-cons s i 0)
 
--- A byte below a range, above it, and in it.
+-- A byte in a range.
 module _ (low high x : ℕ) where
-  pub below_range : x < low → between low high x ≡ false
-  unfolding between
-  below_range h = rw (lt-leb low x h)
-
-  pub above_range : high < x → between low high x ≡ false
-  unfolding between
-  above_range h = rw (lt-leb x high h) (and-false (leb low x))
-
   pub in_range : low ≤ x → x ≤ high → between low high x ≡ true
   unfolding between
   in_range l h = rw (le-leb low x l, le-leb x high h)
@@ -39,10 +31,6 @@ module _ (low high x : ℕ) where
   pub range_ends : between low high x ≡ true → (low ≤ x) × (x ≤ high)
   unfolding between
   range_ends e = let h = (and-eq-true_iff (leb low x) (leb x high)).0 e in (leb-true low x h.0, leb-true x high h.1)
-
--- A place that is filled to its end.
-pub fill_all : (n v : ℕ) (d : List ℕ) → n ≡ length d → replicate n v ++ drop n d ≡ replicate (length d) v
-fill_all n v d e = rw e (ap (λ (l : List ℕ). replicate (length d) v ++ l) (drop-length d) ∙ append-nil (replicate (length d) v))
 
 -- A blank is passed over; at any other byte the blanks end.
 pub skip : (x : ℕ) (rest : List ℕ) → x ≡ blank → trimmed (x ∷ rest) ≡ trimmed rest

@@ -1,6 +1,6 @@
 -- A line written column by column over the bytes lent (document 01, "Sheets").
 use Prim.Native.Nat.{ℕ, ◌+◌, ◌-◌, ◌≤◌}
-use mathlib.Core.Bool.{Bool, true, false}
+use mathlib.Core.Bool.{Bool, true}
 use mathlib.Core.List.{List, [], ◌∷◌, ◌++◌, append_assoc}
 use Rattle.std.specs.Prelude.{Result, Err}
 use mathlib.Core.Path.{◌≡◌, refl, sym, ap, ◌∙◌}
@@ -97,27 +97,6 @@ module _ (s : Sample) (l₀ l₁ : List ℕ) (room : line_length ≤ length l₀
         ap (λ (l : List ℕ). set l newline_at newline) name_put
         ∙ set_next (before ++ t) l₀ newline_at (length-append before t ∙ omega (arith, (start_length s), name_size)) newline (omega arith)
         ∙ rw name_is (simp append_assoc)
-
--- The writer's questions, one after another.
-module _ (codes name room : Bool) where
-  abbrev number : ℕ
-  number = first_no (asks 4 codes ∷ asks 10 name ∷ asks 13 room ∷ [])
-
-  pub no_codes : codes ≡ false → 4 ≡ number
-  unfolding first_no
-  no_codes c = rw c
-
-  pub no_name : codes ≡ true → name ≡ false → 10 ≡ number
-  unfolding first_no
-  no_name c n = rw (c, n)
-
-  pub no_room : codes ≡ true → name ≡ true → room ≡ false → 13 ≡ number
-  unfolding first_no
-  no_room c n r = rw (c, n, r)
-
-  pub no_no : codes ≡ true → name ≡ true → room ≡ true → 0 ≡ number
-  unfolding first_no
-  no_no c n r = rw (c, n, r)
 
 -- A refusal has a number.
 pub refused : (w : Result (Unit {0}) Refusal) (r : Refusal) → w ≡ Err r → answer_number w ≡ 0 → ⊥

@@ -1,7 +1,5 @@
 -- `line::line_of`: each return by the tests that led there, by laws of Laws.Reading.Lines.
 use mathlib.Core.Path.{◌∙◌}
-use native.Mathlib.Omega.{arith}
-use lib.ListN.{drop, length-take}
 use Rattle.sheet.specs.Column.{blank, newline}
 use Rattle.sheet.specs.Computes.{sheet_numbers}
 use Rattle.sheet.specs.Line.{name_field}
@@ -22,20 +20,10 @@ returns-then-line-ne32 c =
       | then-line-ne32-via-else-line-ne32+then-line-ne10 w ↦ no_newline _ w.if-line-ne10.true
     ]
 
-pub name_length-requires : goal.name_length-requires
-unfolding sheet_numbers
-name_length-requires c =
-    omega (arith, length-take 32 (drop 29 c.args.line.now))
-
 pub returns-in_err-name_length : goal.returns-in_err-name_length
 unfolding name_field sheet_numbers
 returns-in_err-name_length c =
     rw c.from_residual.ensures (no_name _ c.in_err-name_length.ensures)
-
-pub numbers-requires : goal.numbers-requires
-unfolding sheet_numbers
-numbers-requires c =
-    c.if-line-ne-LINE_LENGTH.false
 
 pub returns : goal.returns
 unfolding blank newline name_field sheet_numbers

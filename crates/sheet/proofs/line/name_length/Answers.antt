@@ -1,18 +1,8 @@
 -- `line::name_length`: each return by the tests that led there, by laws of Laws.Reading.Lines.
-use native.Mathlib.Omega.{arith}
 use Rattle.sheet.proofs.Laws.Parts.{part_tail}
-use Rattle.sheet.proofs.Laws.Text.{leading_most}
 use Rattle.sheet.proofs.Laws.Reading.Lines.{name_none, name_followed, name_alone}
 use Rattle.sheet.proofs.line.name_length.Goals as goal
 use Rattle.sheet.proofs.line.name_length.Goals.{then-n-eq0-via-then-n-eq0, then-n-eq0-via-else-n-eq0+then-blanks-rest}
-
-pub slice_bounds-rest-count : goal.slice_bounds-rest-count
-slice_bounds-rest-count c =
-    omega (arith, leading_most c.args.field.now)
-
-pub slice_bounds-rest-start : goal.slice_bounds-rest-start
-slice_bounds-rest-start c =
-    omega (arith, leading_most c.args.field.now)
 
 pub returns-then-n-eq0 : goal.returns-then-n-eq0
 returns-then-n-eq0 c =

@@ -1,73 +1,32 @@
 -- `line::numbers`: what the columns hold, by laws of Laws.Reading.Lines.
-use mathlib.Core.Path.{sym}
-use native.Mathlib.Omega.{arith}
-use lib.Seq.{length-take-le}
 use Rattle.colour.specs.Colour.{Red, Green, Blue, code_in}
 use Rattle.sheet.specs.Computes.{sheet_numbers}
-use Rattle.sheet.specs.Line.{line_numbers}
-use Rattle.sheet.specs.Steps.{greatest_tag, greatest_code}
-use Rattle.sheet.proofs.Laws.Reading.Digits.{within_some}
-use Rattle.sheet.proofs.Laws.Numbers.{line_length_is}
+use Rattle.sheet.specs.Line.{code_column, line_numbers}
 use Rattle.sheet.proofs.Laws.Reading.Lines.{no_tag, no_code, all_numbers}
 use Rattle.sheet.proofs.line.numbers.Goals as goal
 
-pub slice_bounds-read_number-end : goal.slice_bounds-read_number-end
-slice_bounds-read_number-end c =
-    sym (length-take-le 10 c.args.line.now (omega (arith, c.requires, line_length_is)))
-
 pub returns-in_err-tag : goal.returns-in_err-tag
-unfolding line_numbers sheet_numbers
+unfolding line_numbers code_column sheet_numbers
 returns-in_err-tag c =
     rw c.from_residual.ensures (no_tag _ _ _ _ _ c.in_err-tag.ensures)
 
-pub code_at-requires : goal.code_at-requires
-unfolding sheet_numbers
-code_at-requires c =
-    omega arith
-
 pub returns-in_err-red : goal.returns-in_err-red
-unfolding line_numbers sheet_numbers
+unfolding line_numbers code_column sheet_numbers
 returns-in_err-red c =
     rw c.from_residual-in_err-red.ensures (no_code _ _ _ _ _ Red c.in_err-red.ensures)
 
-pub code_at-requires-2 : goal.code_at-requires-2
-unfolding sheet_numbers
-code_at-requires-2 c =
-    omega arith
-
 pub returns-in_err-green : goal.returns-in_err-green
-unfolding line_numbers sheet_numbers
+unfolding line_numbers code_column sheet_numbers
 returns-in_err-green c =
     rw c.from_residual-in_err-green.ensures (no_code _ _ _ _ _ Green c.in_err-green.ensures)
 
-pub code_at-requires-3 : goal.code_at-requires-3
-unfolding sheet_numbers
-code_at-requires-3 c =
-    omega arith
-
 pub returns-in_err-blue : goal.returns-in_err-blue
-unfolding line_numbers sheet_numbers
+unfolding line_numbers code_column sheet_numbers
 returns-in_err-blue c =
     rw c.from_residual-in_err-blue.ensures (no_code _ _ _ _ _ Blue c.in_err-blue.ensures)
 
-pub overflow_cast-result : goal.overflow_cast-result
-overflow_cast-result c =
-    omega (arith, (within_some greatest_tag _ _ c.in_ok-tag.ensures).1)
-
-pub overflow_cast-result-2 : goal.overflow_cast-result-2
-overflow_cast-result-2 c =
-    omega (arith, (within_some greatest_code _ _ c.in_ok-red.ensures).1)
-
-pub overflow_cast-result-3 : goal.overflow_cast-result-3
-overflow_cast-result-3 c =
-    omega (arith, (within_some greatest_code _ _ c.in_ok-green.ensures).1)
-
-pub overflow_cast-result-4 : goal.overflow_cast-result-4
-overflow_cast-result-4 c =
-    omega (arith, (within_some greatest_code _ _ c.in_ok-blue.ensures).1)
-
 pub returns : goal.returns
-unfolding line_numbers sheet_numbers code_in
+unfolding line_numbers code_column sheet_numbers code_in
 returns c =
     all_numbers _ _ _ _ _ _
     c.in_ok-tag.ensures

@@ -1,12 +1,10 @@
 -- `lookup::part_of`: what was found so far, and the lines left, give the part that is handed back.
 use mathlib.Core.Bool.{not}
 use mathlib.Core.Path.{◌≡◌, ap, ◌∙◌}
-use native.Mathlib.Omega.{arith}
 use Rattle.std.specs.Prelude.{Some}
 use Rattle.sheet.specs.Computes.{sheet_numbers}
 use Rattle.sheet.specs.Sheet.{line_part}
 use Rattle.sheet.specs.Line.{line_of}
-use Rattle.sheet.proofs.Laws.Reading.Header.{line_ends}
 use Rattle.sheet.proofs.Laws.Reading.Lookup.{header_says, line_says, no_header, begins, bad_line, ends, found_before, another_tag, finds}
 use Rattle.sheet.proofs.lookup.part_of.Goals as goal
 use Rattle.sheet.proofs.lookup.part_of.Goals.{then-is_none+then-line-tag, else-is_none, else-is_none-via-then-is_none+else-line-tag, else-is_none-via-else-is_none}
@@ -23,17 +21,6 @@ pub returns-in_err-line : goal.returns-in_err-line
 returns-in_err-line c =
     rw c.from_residual-in_err-line.ensures
     (bad_line c.loop-k.invariant c.loop-k-test.true (c.in_err-line.ensures.value ∙ line_says _ _ c.line_at.ensures))
-
-pub line_start-requires : goal.line_start-requires
-line_start-requires c =
-    let l = c.loop-k in
-    omega (arith, line_ends l.k, l.invariant.fits l.k (omega arith))
-
-pub overflow_add-found : goal.overflow_add-found
-unfolding sheet_numbers
-overflow_add-found c =
-    let l = c.loop-k in
-    omega (arith, l.invariant.fits l.k (omega arith))
 
 pub loop-k-preserved : goal.loop-k-preserved
 unfolding sheet_numbers

@@ -20,19 +20,6 @@ whole c =
     same_len_mid name_start name_columns (set c.put_numbers.new.line blank_at blank) c.put_left.new.place c.put_left.auto.place
     ∙ simp length-set c.put_numbers.auto.line
 
-pub put_numbers-requires : goal.put_numbers-requires
-unfolding sheet_numbers
-put_numbers-requires c =
-    omega (arith, line_length_is)
-
-pub bounds-line-28 : goal.bounds-line-28
-bounds-line-28 c =
-    omega (arith, line_length_is)
-
-pub slice_bounds-put_left-end : goal.slice_bounds-put_left-end
-slice_bounds-put_left-end c =
-    simp length-set (omega (arith, line_length_is))
-
 pub put_left-requires : goal.put_left-requires
 unfolding blank sheet_numbers
 put_left-requires c =

@@ -6,4 +6,4 @@ use Rattle.tag_list.proofs.lines.put_number_line.Goals as goal
 pub returns : goal.returns
 unfolding newline
 returns c =
-    number_line_put c.args.text.now c.args.at c.args.columns c.args.n c.requires _ c.put_number_at.ensures
+    number_line_put c.args.text.now c.args.columns.start c.args.columns.width c.args.n c.requires _ (rw c.from.ensures at c.put.ensures)

@@ -9,21 +9,20 @@ use Rattle.tag_list.proofs.lines.put_tags.Goals as goal
 pub loop-i-init : goal.loop-i-init
 unfolding tag_lines
 loop-i-init c =
-    (omega arith, refl, refl)
+    (refl, refl)
 
 pub put_number_line-requires : goal.put_number_line-requires
 put_number_line-requires c =
-    omega (arith, c.requires, c.loop-i.invariant.1)
+    omega (arith, c.requires, c.loop-i.invariant.0)
 
 pub loop-i-preserved : goal.loop-i-preserved
 unfolding tag_columns
 loop-i-preserved c =
     let put = c.put_number_line in (
-      omega arith,
-      put.auto.text ∙ c.loop-i.invariant.1,
-      put.ensures ∙ tags_more _ _ c.loop-i.i (omega arith) c.loop-i.text c.loop-i.invariant.2,
+      put.auto.text ∙ c.loop-i.invariant.0,
+      put.ensures ∙ tags_more _ _ c.loop-i.i (omega arith) c.loop-i.text c.loop-i.invariant.1,
     )
 
 pub returns : goal.returns
 returns c =
-    tags_all _ _ _ c.loop-i.i (omega arith) c.loop-i.invariant.2 c.loop-i.invariant.0
+    tags_all _ _ _ c.loop-i.i (omega arith) c.loop-i.invariant.1 (omega arith)
