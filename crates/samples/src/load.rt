@@ -43,13 +43,7 @@ fn longest(samples: &[u32], octants: usize, settings: Settings, low: usize, high
 }
 
 // Why a load ends at line `taken`, with n samples in the set: the first no of 12, 5 and 6 there, else 7; or that the sheet ends.
-fn stopped(
-    samples: &[u32],
-    n: usize,
-    sheet: &[u8],
-    lines: usize,
-    taken: usize,
-) -> Result<u32, Stop>
+fn stopped(samples: &[u32], n: usize, sheet: &[u8], lines: usize, taken: usize) -> Result<u32, Stop>
     requires { (n ≤ sample_rows current (length samples.now)) × (taken ≤ n) × (taken ≤ lines)
         × (line_start lines ≤ length sheet.now) }
     ensures { Stopped n samples.now sheet.now lines taken result }
@@ -81,7 +75,12 @@ fn stopped(
 
 // Takes the lines of a sheet with a good header, on sound tables. All that can be rows become rows, and one tree is built: that of the
 // longest run of them that is a set which fits.
-fn load_lines(samples: &mut [u32], octants: &mut [u32], sheet: &[u8], lines: usize) -> Result<u32, Stop>
+fn load_lines(
+    samples: &mut [u32],
+    octants: &mut [u32],
+    sheet: &[u8],
+    lines: usize,
+) -> Result<u32, Stop>
     requires { (Sound current (pair samples.old octants.old)) × (line_count sheet.now ≡ Some lines) }
     ensures { FollowsAll (Load sheet.now) (tables_lent samples octants)
         (loaded_answer result) (tables_left samples octants) }

@@ -47,7 +47,12 @@ fn rebuild_rows(
 }
 
 // Writes the tables of the samples in the first n rows; or refuses by the first no of 4 and 7, and then nothing is written.
-pub fn rebuild(samples: &mut [u32], octants: &mut [u32], settings: Settings, n: usize) -> Result<(), Refusal>
+pub fn rebuild(
+    samples: &mut [u32],
+    octants: &mut [u32],
+    settings: Settings,
+    n: usize,
+) -> Result<(), Refusal>
     requires { Space samples.old octants.old n 4096 }
     ensures { Rebuilt (codes_asked settings n (tables_lent samples octants))
         settings n (tables_lent samples octants) (answer_number result) (tables_left samples octants) }
@@ -69,9 +74,13 @@ fn rows_accepted(
         × (length entries.old ≤ length scratch.old) }
     ensures { (result ≡ true) ↔ (Acceptable settings samples.now octants (length entries.old)) }
 {
-    all_apart(samples, entries, scratch)
-        && fill(samples, entries).is_ok()
-        && judge(entries, scratch, settings, samples.len(), octants).is_ok()
+    if !all_apart(samples, entries, scratch) {
+        return false;
+    }
+    if fill(samples, entries).is_err() {
+        return false;
+    }
+    judge(entries, scratch, settings, samples.len(), octants).is_ok()
 }
 
 // The same for the samples in the first n rows.

@@ -26,14 +26,12 @@ pub fn put_lines(samples: &mut [u32], n: usize, sheet: &[u8], lines: usize) -> u
     ensures { LinesPut n samples.old sheet.now lines result samples.new }
 {
     let room = sample_rows(samples.len()) - n;
-    for k in 0..lines {
-        if room <= k {
-            return k;
-        }
+    let most = lines.min(room);
+    for k in 0..most {
         let Ok(line) = line_at(sheet, k) else {
             return k;
         };
         put_sample(samples, n + k, line.sample);
     }
-    lines
+    most
 }

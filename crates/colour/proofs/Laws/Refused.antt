@@ -1,9 +1,9 @@
 -- Refusals that are passed on, and the numbers of answers.
-use mathlib.Core.Bool.{true, false, true≢false}
+use mathlib.Core.Bool.{true, false, not, true≢false}
 use mathlib.Core.Path.{◌≡◌, refl, sym, ◌∙◌, ap}
 use Rattle.std.specs.Prelude.{Option, None, Result, Ok, Err}
 use Rattle.std.specs.Option.{ok_or}
-use Rattle.std.specs.Result.{IsErrAnd, is_ok}
+use Rattle.std.specs.Result.{IsErrAnd, is_ok, is_err}
 use Rattle.std.proofs.lemmas.Result.{err_from_is_err_and}
 use Rattle.colour.specs.declared.refusal.Refusal.{Refusal}
 use Rattle.colour.specs.Refusal.{answer_number}
@@ -28,3 +28,12 @@ accepted_numbered (Err r) e = absurd (true≢false (sym e))
 pub not_accepted_numbered : {T : Type 0} (a : Result T Refusal) → is_ok a ≡ false → answer_number a ≡ 0 → ⊥
 not_accepted_numbered (Ok x) e z = absurd (true≢false e)
 not_accepted_numbered (Err r) e z = refusal_numbered r z
+
+-- An error is no success.
+pub err_not_ok : {T : Type 0} (a : Result T Refusal) → is_err a ≡ true → not (is_ok a) ≡ true
+err_not_ok (Ok x) e = absurd (true≢false (sym e))
+err_not_ok (Err r) e = refl
+
+pub no_err_ok : {T : Type 0} (a : Result T Refusal) → is_err a ≡ false → is_ok a ≡ true
+no_err_ok (Ok x) e = refl
+no_err_ok (Err r) e = absurd (true≢false e)

@@ -15,9 +15,11 @@ use Rattle.words.specs.Rows.{samples_from, set_of}
 use Rattle.words.proofs.Laws.Answers.{says_yes, says_no, refuted}
 use Rattle.order.specs.Entries.{entries_of}
 use Rattle.octree.specs.Steps.{Judged}
-use Rattle.std.specs.Prelude.{Result, Ok, Err}
+use Rattle.std.specs.Prelude.{Result}
 use Rattle.colour.specs.declared.refusal.Refusal.{Refusal}
 use Rattle.colour.specs.Refusal.{answer_number}
+use Rattle.std.specs.Result.{is_ok}
+use Rattle.colour.proofs.Laws.Refused.{accepted_numbered, not_accepted_numbered}
 use Rattle.octree.proofs.Laws.Tables.Judged.{fits_room, room_fits}
 use Rattle.samples.specs.Steps.{Acceptable}
 
@@ -54,6 +56,11 @@ module _ (x : Settings) (ws : List ℕ) (octant_length n : ℕ) where
             in_range = subst (λ (k : ℕ). CodesInRange (samples_from current ws 0 k)) kept i;
             octants_fit = subst Room (as_long ∙ kept) (fits_room x ws es few_entries own_entries after octant_length r told e);
           })
+
+      pub accepted_by : (b : Bool) → b ≡ is_ok r → Distinct (samples_from current ws 0 n) → CodesInRange (samples_from current ws 0 m)
+          → (b ≡ true) ↔ Acceptable x ws octant_length n
+      accepted_by true e d i = all_accepted d i (accepted_numbered r (sym e))
+      accepted_by false e d i = octants_over (not_accepted_numbered r (sym e))
 
   -- The same for the places that are lent for n entries, k of them.
   pub accepted_lent : (k : ℕ) (q : Bool) → n ≡ k → (q ≡ true) ↔ Acceptable x ws octant_length k → (q ≡ true) ↔ Acceptable x ws octant_length n

@@ -27,7 +27,7 @@ use Rattle.words.proofs.Laws.Layout.Put.{empty, put_length, put_snoc, put_back}
 use Rattle.words.proofs.Laws.Layout.Samples.{samples_length}
 use Rattle.octree.proofs.Laws.Tables.Check.{sample_length_lem, octant_length_lem, rest_zero}
 use Rattle.samples.specs.Answers.{changed_answer}
-use Rattle.std.specs.Prelude.{Result, Ok, Err}
+use Rattle.std.specs.Prelude.{Ok, Err}
 use Rattle.samples.specs.Rebuilding.{codes_asked, Rebuilt}
 use Rattle.samples.specs.Steps.{FollowsAll, holding, Adding, row_of_tag}
 use Rattle.samples.proofs.Laws.Meets.{refused_follows, accepted_follows}

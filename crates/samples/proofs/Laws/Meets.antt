@@ -14,7 +14,7 @@ use Rattle.model.specs.Sound.{Sound, long_enough}
 use Rattle.model.specs.Meets.{Refused, TableMeets, Follows}
 use Rattle.model.proofs.Machine.Step.{step_accepted, step_refused}
 use Rattle.octree.proofs.Laws.Tables.Check.{too_short}
-use Rattle.std.specs.Prelude.{Result, Ok, Err}
+use Rattle.std.specs.Prelude.{Result, Err}
 use Rattle.colour.specs.Refusal.{answer_number}
 use Rattle.samples.specs.Steps.{FollowsAll}
 

@@ -84,15 +84,14 @@ module _ (x : Settings) (ws os es : List ℕ) (scratch : ℕ) (h : Entered ws os
         go false e = e
 
     -- That is its refusal's number, since there are rows.
+    abbrev room₂ : Bool
+    room₂ = leb (octants_of x.bucket depths (view es)) (octant_rows current (length os))
+
     judged_seven : (e : Refusal) → r ≡ Err e → refusal_number e ≡ 7
     unfolding fits_rows
     judged_seven e er = go room₂ refl
       where
-        room₂ : Bool
-        room₂ = leb (octants_of x.bucket depths (view es)) (octant_rows current (length os))
-
         numbered : refusal_number e ≡ first_no (asks 7 room₂ ∷ [])
-        unfolding room₂
         numbered = sym (ap answer_number er) ∙ told.number ∙ first_yes 6 _ _ (le-leb (length es) (sample_rows current (length ws)) h.spaced.few)
 
         go : (b : Bool) → room₂ ≡ b → refusal_number e ≡ 7

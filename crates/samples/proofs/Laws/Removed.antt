@@ -21,7 +21,7 @@ use Rattle.model.proofs.Machine.Valid.{removed_valid}
 use Rattle.words.specs.Rows.{count_in, settings_in, samples_from}
 use Rattle.words.proofs.Laws.Layout.Samples.{samples_length}
 use Rattle.samples.specs.Answers.{changed_answer}
-use Rattle.std.specs.Prelude.{Result, Ok, Err}
+use Rattle.std.specs.Prelude.{Ok, Err}
 use Rattle.samples.specs.Rebuilding.{codes_asked, Rebuilt}
 use Rattle.samples.specs.Steps.{FollowsAll, holding, Acceptable, row_of_tag, without_row}
 use Rattle.samples.proofs.Laws.Meets.{refused_follows, accepted_follows}

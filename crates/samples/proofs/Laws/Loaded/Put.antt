@@ -1,8 +1,11 @@
 -- `put_lines`: the rows so far, and the good lines that are left, are the rows that it leaves.
-use Prim.Native.Nat.{ℕ, suc, ◌+◌, ◌-◌, ◌≤◌, ◌<◌}
+use Prim.Native.Nat.{ℕ, suc, ◌+◌, ◌-◌, ◌≤◌, ◌<◌, min}
+use mathlib.Core.Bool.{Bool, true, false}
+use borrow.Author.Tests.{leb-true, leb-false}
+use lib.Dec.{leb}
 use mathlib.Core.List.{List, [], ◌∷◌, ◌++◌, append-nil}
 use Rattle.std.specs.Prelude.{None, Some}
-use mathlib.Core.Path.{◌≡◌, refl, sym, ap, ◌∙◌}
+use mathlib.Core.Path.{◌≡◌, refl, sym, ap, ◌∙◌, subst}
 use native.Mathlib.Nat.{add-zero, add-suc, sub-zero}
 use native.Mathlib.Numerals.{add-one}
 use native.Mathlib.Omega.{arith}
@@ -60,6 +63,13 @@ module _ {ws : List ℕ} {n : ℕ} {sheet : List ℕ} {lines room : ℕ} {ws' : 
 
   pub no_line : lines ≤ k → LinesPut n ws sheet lines k ws'
   no_line end = ends (ap (good_samples (room - k)) (none_left sheet k lines end) ∙ good_end (room - k))
+
+  pub all_put : (most : ℕ) → most ≡ min lines room → most ≤ k → k ≤ most → LinesPut n ws sheet lines most ws'
+  all_put most e l m = let same : k ≡ most = omega arith in subst (λ (r : ℕ). LinesPut n ws sheet lines r ws') same (go (leb lines k) refl)
+    where
+      go : (b : Bool) → leb lines k ≡ b → LinesPut n ws sheet lines k ws'
+      go true t = no_line (leb-true lines k t)
+      go false t = let more : k < lines = leb-false lines k t in no_row (omega arith)
 
   pub bad_line : k < lines → None ≡ line_of (line_part sheet k) → LinesPut n ws sheet lines k ws'
   bad_line more bad = ends (rw (next_left sheet k lines more, ← bad) (good_bad (room - k) _))

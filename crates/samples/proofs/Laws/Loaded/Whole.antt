@@ -28,7 +28,7 @@ use Rattle.model.proofs.Machine.Step.{step_accepted}
 use Rattle.words.specs.Rows.{count_in, settings_in, samples_from}
 use Rattle.words.proofs.Laws.Layout.Samples.{samples_length, samples_take}
 use Rattle.octree.proofs.Laws.Tables.Check.{sample_length_lem, count_shown}
-use Rattle.std.specs.Prelude.{Result, Ok, Err}
+use Rattle.std.specs.Prelude.{Result, Err}
 use Rattle.sheet.specs.Answers.{header_answer}
 use Rattle.samples.specs.Answers.{loaded_answer, before_lines}
 use Rattle.samples.specs.declared.answers.Stop.{Stop}

@@ -2,7 +2,7 @@
 use mathlib.Core.Bool.{true≢false}
 use Prim.Native.Nat.{ℕ}
 use mathlib.Core.Path.{sym, ap, subst⁻¹, ◌∙◌}
-use Rattle.std.specs.Prelude.{Result, Err}
+use Rattle.std.specs.Prelude.{Result, Ok, Err}
 use Rattle.colour.proofs.Laws.Refused.{passed_on}
 use Rattle.model.specs.Tables.{pair}
 use Rattle.samples.specs.declared.answers.Stop.{Stop}
@@ -40,7 +40,7 @@ pub load_lines-requires : goal.load_lines-requires
 unfolding header_answer
 load_lines-requires c = (
   c.check.ensures.sound c.if-not-check.false,
-  sym (header_says _ _ (c.in_ok-lines.ensures)),
+  sym (header_says (Ok c.in_ok-lines.lines) _ c.in_ok-lines.ensures),
 )
 
 pub returns : goal.returns

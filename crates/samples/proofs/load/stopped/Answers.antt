@@ -1,6 +1,7 @@
 -- `load::stopped`: each answer by the line where it is given.
 use native.Mathlib.Omega.{arith}
-use mathlib.Core.Path.{sym, ap, ◌∙◌}
+use mathlib.Core.Path.{refl, sym, ap, ◌∙◌}
+use Rattle.samples.proofs.Laws.Tags.{row_is, row_is_not}
 use Rattle.std.specs.Result.{result_ok}
 use lib.ListN.{length}
 use Rattle.sheet.specs.Answers.{line_answer}
@@ -27,7 +28,22 @@ unfolding line_answer
 returns-in_default c =
     at_bad_line _ _ _ _ _ c.if-lines-taken.false (sym (ap result_ok c.in_default.is) ∙ line_says _ _ c.line_at.ensures)
 
-pub returns-in-Ok : goal.returns-in-Ok
+pub returns-then-known : goal.returns-then-known
 unfolding line_answer
-returns-in-Ok c =
-    ?
+returns-then-known c =
+    let e = sym (ap result_ok c.in-Ok.is) ∙ line_says _ _ c.line_at.ensures in
+    at_known_tag _ _ _ _ _ c.in-Ok.line c.if-lines-taken.false e _ refl (row_is _ _ _ c.row_of.ensures c.is_some-known.ensures c.if-known.true)
+
+pub returns-then-full : goal.returns-then-full
+unfolding line_answer
+returns-then-full c =
+    let e = sym (ap result_ok c.in-Ok.is) ∙ line_says _ _ c.line_at.ensures in
+    at_no_row _ _ _ _ _ c.in-Ok.line c.if-lines-taken.false e _ refl (row_is_not _ _ _ c.row_of.ensures c.is_some-known.ensures c.if-known.false)
+    (omega (arith, c.sample_rows.ensures.is, c.if-full.true))
+
+pub returns-else-full : goal.returns-else-full
+unfolding line_answer
+returns-else-full c =
+    let e = sym (ap result_ok c.in-Ok.is) ∙ line_says _ _ c.line_at.ensures in
+    at_no_octants _ _ _ _ _ c.in-Ok.line c.if-lines-taken.false e _ refl (row_is_not _ _ _ c.row_of.ensures c.is_some-known.ensures c.if-known.false)
+    (omega (arith, c.sample_rows.ensures.is, c.if-full.false))

@@ -1,7 +1,7 @@
 -- `remove::remove_sound`: the row of the tag closed, then both tables rebuilt.
 use native.Mathlib.Omega.{arith}
-use mathlib.Core.Path.{◌≡◌, refl, sym, ap, subst⁻¹, ◌∙◌}
-use Rattle.std.specs.Prelude.{Result, Ok, Err}
+use mathlib.Core.Path.{refl, sym, ap, subst⁻¹, ◌∙◌}
+use Rattle.std.specs.Prelude.{Result, Err}
 use Rattle.colour.specs.declared.refusal.Refusal.{Refusal}
 use Rattle.colour.specs.declared.refusal.Refusal.TheVariants as R
 use Rattle.colour.proofs.Laws.Refused.{passed_on, refused_by}
@@ -44,6 +44,10 @@ pub rebuild-requires : goal.rebuild-requires
 rebuild-requires c =
     let sound = c.requires in
     space_for _ _ sound _ _ c.close_row.auto.samples (omega (arith, rows_there _ _ sound _ c.count-n.ensures))
+
+pub overflow_sub-n : goal.overflow_sub-n
+overflow_sub-n c =
+    omega (arith, (row_told _ _ _ _ (sym c.row_of.ensures ∙ c.in_ok-row.ensures.ok_part)).1)
 
 pub returns : goal.returns
 returns c =
