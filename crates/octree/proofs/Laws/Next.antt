@@ -17,7 +17,7 @@ use Rattle.model.specs.Tables.{next_row, first_row}
 use Rattle.model.proofs.Tables.Next.{next_in}
 use Rattle.model.proofs.Tree.Order.{count, at_row}
 use Rattle.words.specs.Rows.{sample_at, sample_field, sample_in, samples_from}
-use Rattle.words.proofs.Laws.Answers.{says_yes, says_no}
+use Rattle.words.proofs.Laws.Answers.{says_no}
 use Rattle.words.proofs.Laws.Layout.Places.{field_place, sample_at_lem, row_room}
 use Rattle.words.proofs.Laws.Layout.Samples.{same_sample_lem, same_samples}
 use Rattle.order.specs.Entries.{placed_of, view}
@@ -102,13 +102,6 @@ module _ {n : ℕ} {es ws : List ℕ} {after i : ℕ} (p : NextsFrom n es ws aft
   pub row_below : 0 < i → RowsOnce n es → get_or es (i - 1) 0 % 4096 < n
   row_below h once = once.below (i - 1) (omega (arith, p.few, once.many))
 
-  -- All entries have their next words: so has every row that stands among them.
-  pub nexts_all : i ≤ 0 → RowsOnce n es → NextsAre n es ws
-  nexts_all h once r l =
-      let zeroth : i ≡ 0 = omega arith in
-      let whole : drop i es ≡ es = ap (λ (k : ℕ). drop k es) zeroth in
-      (rw whole at p.nexts) r (once.found r l)
-
   -- The next word of the entry before them is to be `after`.
   pub next_needed : 0 < i → RowsOnce n es → NextsAre n es ws → sample_field current ws (get_or es (i - 1) 0 % 4096) Next ≡ after
   unfolding view placed_of times_row count at_row
@@ -124,9 +117,6 @@ module _ {n : ℕ} {es ws : List ℕ} {after i : ℕ} (p : NextsFrom n es ws aft
 
 -- The answers of a comparison, entry by entry.
 module _ {n : ℕ} {es ws : List ℕ} {after i : ℕ} (p : NextsFrom n es ws after i) (once : RowsOnce n es) where
-  pub nexts_same : i ≤ 0 → (true ≡ true) ↔ NextsAre n es ws
-  nexts_same h = says_yes (nexts_all p h once)
-
   pub nexts_differ : 0 < i → (sample_field current ws (get_or es (i - 1) 0 % 4096) Next ≡ after → ⊥) → (false ≡ true) ↔ NextsAre n es ws
   nexts_differ h d = says_no (λ all. d (next_needed p h once all))
 

@@ -1,12 +1,11 @@
 -- The checking call: what sound tables are, and that tables which hold the set that they say are sound.
 use Prim.Native.Nat.{ℕ, zero, suc, ◌+◌, ◌-◌, ◌≤◌, ◌<◌}
-use mathlib.Core.Bool.{Bool, true, false, false≢true, not, ◌&&◌, and-eq-true_iff}
+use mathlib.Core.Bool.{Bool, true, false, false≢true, ◌&&◌, and-eq-true_iff}
 use mathlib.Core.List.{List}
-use mathlib.Core.Logic.Iff
 use mathlib.Core.Logic.{◌↔◌}
 use mathlib.Core.Path.{◌≡◌, refl, sym, ap, ap₂, ◌∙◌, subst}
 use native.Mathlib.Omega.{arith}
-use borrow.Author.Tests.{le-leb, leb-true, not-true}
+use borrow.Author.Tests.{le-leb, leb-true}
 use lib.Dec.{leb}
 use lib.ListN.{length, get_or, take, replicate, length-replicate}
 use lib.Seq.{length-take-le, get_or-append-add}
@@ -22,50 +21,9 @@ use Rattle.model.proofs.Tables.Numbers.{current_numbers}
 use Rattle.model.proofs.Tables.Size.{sample_words_length}
 use Rattle.model.proofs.Tables.Unique as unique
 use Rattle.words.specs.Rows.{sample_start, settings_in, count_in, samples_from, set_of}
-use Rattle.words.proofs.Laws.Answers.{says_no, refuted}
 use Rattle.words.proofs.Laws.Layout.Samples.{samples_length}
-use Rattle.order.specs.Entries.{entries_of}
-use Rattle.octree.specs.Steps.{Headed, SameTables, Holds, Listed}
+use Rattle.octree.specs.Steps.{Headed, Holds}
 use Rattle.octree.proofs.Laws.Tables.Reading.{count_read, settings_read, samples_read}
-
--- The tags and the codes beside. Entries keep their number through the calls: n at first, then m, then those of es.
-module _ (s : Settings) (n : ℕ) (ws os : List ℕ) where
-  pub twice : (q : Bool) → not q ≡ true → (q ≡ true) ↔ Distinct (samples_from current ws 0 n) → (false ≡ true) ↔ Holds s n ws os
-  twice q off t = refuted q off t (λ h. h.tags_distinct)
-
-  module _ (m : ℕ) (kept : m ≡ n) where
-    pub out_of_range : (q : Bool) → not q ≡ true → (CodesInRange (samples_from current ws 0 m) → q ≡ true) → (false ≡ true) ↔ Holds s n ws os
-    out_of_range q off t =
-        says_no (λ h. false≢true (sym (not-true q off) ∙ t (subst (λ (k : ℕ). CodesInRange (samples_from current ws 0 k)) (sym kept) h.in_range)))
-
-    module _ (es : List ℕ) (as_long : length es ≡ m) where
-      pub now_listed : (scratch scratch' : ℕ) → Headed s ws os n scratch → scratch' ≡ scratch
-          → es ≡ entries_of (samples_from current ws 0 m) → Listed s ws os es scratch'
-      now_listed scratch scratch' h e entries =
-          record {
-            headed =
-                record {
-                  sample_words_is = h.sample_words_is;
-                  octant_words_is = h.octant_words_is;
-                  few = omega (arith, kept, as_long, h.few);
-                  space = omega (arith, kept, as_long, h.space);
-                  counted = h.counted ∙ sym (as_long ∙ kept);
-                  settings = h.settings;
-                };
-            entries = entries ∙ ap (λ (k : ℕ). entries_of (samples_from current ws 0 k)) (sym as_long);
-          }
-
-      pub set_tells : Distinct (samples_from current ws 0 n) → CodesInRange (samples_from current ws 0 m) → (q : Bool)
-          → (q ≡ true) ↔ SameTables s (length es) ws os → (q ≡ true) ↔ Holds s n ws os
-      set_tells d i q t =
-          Iff.trans t (
-            λ same. record {
-              tags_distinct = d;
-              in_range = subst (λ (k : ℕ). CodesInRange (samples_from current ws 0 k)) kept i;
-              tables = subst (λ (k : ℕ). SameTables s k ws os) (as_long ∙ kept) same;
-            },
-            λ h. subst (λ (k : ℕ). SameTables s k ws os) (sym (as_long ∙ kept)) h.tables,
-          )
 
 -- A word among zeros, or after them.
 get_d_zeros : (n i : ℕ) → get_or {A = ℕ} (replicate n 0) i 0 ≡ 0
