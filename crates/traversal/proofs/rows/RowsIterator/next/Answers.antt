@@ -8,8 +8,8 @@ pub returns-then-self-eq0-clause-steps : goal.returns-then-self-eq0-clause-steps
 returns-then-self-eq0-clause-steps c =
     let e = rows_none c.args.self.now.samples.now c.args.self.now.left c.args.self.now.row (omega arith) in (e, e)
 
-pub returns-then-sample_rows-row-clause-steps : goal.returns-then-sample_rows-row-clause-steps
-returns-then-sample_rows-row-clause-steps c =
+pub returns-then-self-row-clause-steps : goal.returns-then-self-row-clause-steps
+returns-then-self-row-clause-steps c =
     let e = rows_out c.args.self.now.samples.now c.args.self.now.left c.args.self.now.row (omega arith) in (e, e)
 
 pub returns-clause-steps : goal.returns-clause-steps
