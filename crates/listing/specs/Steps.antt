@@ -1,23 +1,21 @@
 -- What the functions under the calls ask and promise. No call's own promise cites these.
-use Rattle.std.specs.Prelude.{ℕ, ◌+◌, ◌≤◌, ◌<◌, Bool, List, [], ◌∷◌, ◌≡◌, length, get_or}
+use Rattle.std.specs.Prelude.{ℕ, ◌+◌, ◌≤◌, ◌<◌, Bool, List, ◌≡◌, length}
 use Rattle.std.proofs.lemmas.List.Edits.{sets}
 use Rattle.colour.specs.declared.Region.{Region}
 use Rattle.model.specs.Layout.{current, sample_header, octant_header}
 use Rattle.words.specs.Rows.{octant_limit, sample_budget}
 use Rattle.listing.specs.declared.follow.Run.{Run}
+use Rattle.listing.specs.declared.tally.Tally as Lent
 use Rattle.traversal.specs.Own.{rows_from}
 use Rattle.listing.specs.Pass.{Tally, Visit, tags_of}
 
--- The five words of a tally that is lent: how many are listed, and the counts.
-unfoldable pub tally_words : ℕ → Tally → List ℕ
-tally_words n t = n ∷ t.entered ∷ t.measured ∷ t.next ∷ t.visited ∷ []
+-- The tally that a pass lends: how many are listed, and the counts.
+abbrev pub tally_of : ℕ → Tally → Lent.Tally
+tally_of n t = record { listed = n; entered = t.entered; measured = t.measured; next = t.next; visited = t.visited }
 
--- How many are listed, and the counts, as five words say.
-unfoldable pub listed_in : List ℕ → ℕ
-listed_in ws = get_or ws 0 0
-
-unfoldable pub tally_in : List ℕ → Tally
-tally_in ws = record { entered = get_or ws 1 0; measured = get_or ws 2 0; next = get_or ws 3 0; visited = get_or ws 4 0 }
+-- Its counts.
+abbrev pub tally_in : Lent.Tally → Tally
+tally_in lent = record { entered = lent.entered; measured = lent.measured; next = lent.next; visited = lent.visited }
 
 -- A tally within a budget of samples and a limit of octants. Rows that are entered rise, so there are no more of them than rows passed.
 pub record TallyWithin (budget limit : ℕ) (t : Tally) : Type 0 where
@@ -26,14 +24,13 @@ pub record TallyWithin (budget limit : ℕ) (t : Tally) : Type 0 where
   pub measured : t.measured ≤ t.visited
   pub visited : t.visited ≤ budget
 
--- What is known wherever a pass stands: both headers are there, and the tally's words say a tally within the tables' bounds.
-pub record Counting (ws os words : List ℕ) : Type 0 where
+-- What is known wherever a pass stands: both headers are there, and the tally that is lent is within the tables' bounds.
+pub record Counting (ws os : List ℕ) (lent : Lent.Tally) : Type 0 where
   pub samples : sample_header current ≤ length ws
   pub octants : octant_header current ≤ length os
   pub small : octant_limit current os < 4294967296
-  pub five : length words ≡ 5
-  pub limits : TallyWithin (sample_budget current ws) (octant_limit current os) (tally_in words)
-  pub listed : listed_in words ≤ (tally_in words).visited
+  pub limits : TallyWithin (sample_budget current ws) (octant_limit current os) (tally_in lent)
+  pub listed : lent.listed ≤ lent.visited
 
 -- A run of samples was gone through: its tags stand in the listing from a start on, as far as it reaches.
 pub record Followed (ws : List ℕ) (R : Region) (whole : Bool) (first count start : ℕ) (listing : List ℕ) (r : Run) (listing' : List ℕ) : Type 0 where
@@ -41,7 +38,7 @@ pub record Followed (ws : List ℕ) (R : Region) (whole : Bool) (first count sta
   pub seen : r.seen ≡ length (rows_from ws count first)
   pub tags : listing' ≡ sets listing start (tags_of ws R whole (rows_from ws count first))
 
--- A visit was made: its tags stand in the listing after those listed before, as far as it reaches, and its tally in the words.
-pub record Visited (v : Visit) (words listing words' listing' : List ℕ) : Type 0 where
-  pub tally : words' ≡ tally_words (listed_in words + length v.tags) v.after
-  pub tags : listing' ≡ sets listing (listed_in words) v.tags
+-- A visit was made: its tags stand in the listing after those listed before, as far as it reaches, and the tally that is lent is its own.
+pub record Visited (v : Visit) (lent : Lent.Tally) (listing : List ℕ) (lent' : Lent.Tally) (listing' : List ℕ) : Type 0 where
+  pub tally : lent' ≡ tally_of (lent.listed + length v.tags) v.after
+  pub tags : listing' ≡ sets listing lent.listed v.tags

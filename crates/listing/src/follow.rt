@@ -1,4 +1,4 @@
-// The samples of an octant, by their next words. Nothing is trusted: a row is tested before it is read, and a code brought into range.
+// The samples of an octant, by their next words. Nothing is trusted: a code is brought into range.
 ghost use Rattle.std.specs.Prelude.{◌+◌, ◌≤◌, ◌<◌, ◌≡◌, length, set};
 ghost use Rattle.colour.specs.Region.{Fair};
 ghost use Rattle.model.specs.Layout.{current, sample_rows};
@@ -7,7 +7,8 @@ ghost use Rattle.listing.specs.Steps.{Followed};
 
 use colour::overlap::holds;
 use colour::{Region, wrapped};
-use words::layout::{colour as colour_of, next as next_of, sample_rows, tag as tag_of};
+use traversal::rows::rows_from;
+use words::layout::{colour as colour_of, tag as tag_of};
 
 // Where a run of samples left the listing, and how many samples it saw.
 #[derive(Clone, Copy)]
@@ -50,19 +51,12 @@ pub fn follow(
     requires { (Fair region) × (start + count ≤ 8192) }
     ensures { Followed samples.now region whole first count start listing.old result listing.new }
 {
-    let rows = sample_rows(samples.len());
-    let mut row = first as usize;
     let mut seen: u32 = 0;
     let mut end = start;
-    while seen < count {
-        if rows <= row {
-            return Run { end, seen };
-        }
-        let here = row;
-        row = next_of(samples, here) as usize;
+    for row in rows_from(samples, first, count) {
         seen += 1;
-        if takes(samples, region, whole, here) {
-            put(listing, end, tag_of(samples, here));
+        if takes(samples, region, whole, row) {
+            put(listing, end, tag_of(samples, row));
             end += 1;
         }
     }

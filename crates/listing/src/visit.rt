@@ -6,10 +6,10 @@ ghost use Rattle.colour.specs.Region.{Fair};
 ghost use Rattle.model.specs.Layout.{current, sample_header, octant_header};
 ghost use Rattle.words.specs.Rows.{octant_limit, sample_budget};
 ghost use Rattle.listing.specs.Pass.{no_tally, own_samples, visit_of, pass_of};
-ghost use Rattle.listing.specs.Steps.{tally_words, tally_in, TallyWithin, Counting, Visited};
+ghost use Rattle.listing.specs.Steps.{tally_of, tally_in, TallyWithin, Counting, Visited};
 
 use crate::follow::follow;
-use crate::tally::{count, enter, listed, may_enter, visited};
+use crate::tally::Tally;
 use colour::mask::{first, without};
 use colour::octant::{child, root, side};
 use colour::overlap::{inside, overlapping, overlaps};
@@ -25,7 +25,7 @@ fn own_samples(
     whole: bool,
     row: u32,
     listing: &mut [u32],
-    tally: &mut [u32; 5],
+    tally: &mut Tally,
 )
     requires fair { Fair region }
     requires counting { Counting samples.now octants.now tally.old }
@@ -34,7 +34,7 @@ fn own_samples(
         (own_samples samples.now octants.now region whole row (tally_in tally.old))
         tally.old listing.old tally.new listing.new }
 {
-    let most = most(samples, octants, row, visited(tally));
+    let most = most(samples, octants, row, tally.visited);
     let run = follow(
         samples,
         region,
@@ -42,9 +42,9 @@ fn own_samples(
         octant_first(octants, row),
         most,
         listing,
-        listed(tally),
+        tally.listed,
     );
-    count(tally, whole, run.seen, run.end);
+    tally.count(whole, run.seen, run.end);
 }
 
 // Enters the octant in a row.
@@ -55,17 +55,17 @@ fn visit(
     row: u32,
     cube: Cube,
     listing: &mut [u32],
-    tally: &mut [u32; 5],
+    tally: &mut Tally,
 )
     requires fair { Fair region }
     requires within { Within cube }
     requires counting { Counting samples.now octants.now tally.old }
-    requires next_bound { ((tally_in tally.old).next ≤ row) × (row < octant_limit current octants.now) }
+    requires next_bound { (tally.old.next ≤ row) × (row < octant_limit current octants.now) }
     ensures { Visited
         (visit_of samples.now octants.now region (16 - cube.depth) row cube.low (tally_in tally.old))
         tally.old listing.old tally.new listing.new }
 {
-    enter(tally, row);
+    tally.enter(row);
     let whole = inside(region, cube);
     let depth = cube.depth;
     if ends(samples, octants, whole, depth, row) {
@@ -79,7 +79,7 @@ fn visit(
         let k = first(left);
         left = without(left, k);
         let next = octant_child(octants, row, k);
-        if may_enter(tally, next, limit) {
+        if tally.may_enter(next, limit) {
             visit(
                 samples,
                 octants,
@@ -99,11 +99,11 @@ pub fn pass(
     octants: &[u32],
     region: Region,
     listing: &mut [u32],
-    tally: &mut [u32; 5],
+    tally: &mut Tally,
 )
     requires fair { Fair region }
     requires headed { (sample_header current ≤ length samples.now) × (octant_header current ≤ length octants.now) }
-    requires blank { tally.old ≡ tally_words 0 no_tally }
+    requires blank { tally.old ≡ tally_of 0 no_tally }
     ensures visited { Visited
         (pass_of samples.now octants.now region)
         tally.old listing.old tally.new listing.new }
@@ -112,7 +112,7 @@ pub fn pass(
 {
     let limit = octant_limit(octants);
     let all = root();
-    if may_enter(tally, 0, limit) {
+    if tally.may_enter(0, limit) {
         if overlaps(region, all) {
             visit(samples, octants, region, 0, all, listing, tally);
         }

@@ -1,6 +1,6 @@
 -- What the proofs of nearest by path cite.
 pub mod Closer
-pub mod Words
+pub mod Tests
 pub mod Measuring
 pub mod Starting
 pub mod Least

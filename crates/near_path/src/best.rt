@@ -1,23 +1,12 @@
-// What a search keeps and has counted, in five words that are lent down the recursion. (Passed by value, a struct would be copied at each call.)
-ghost use Rattle.std.specs.Prelude.{ℕ, ◌<◌, ◌≤◌, List, ◌≡◌, length};
+// What a search keeps and has counted. It is lent down the recursion: passed by value, it would be copied at each call.
+ghost use Rattle.std.specs.Prelude.{ℕ, ◌<◌, ◌≤◌, List, ◌≡◌};
 ghost use Rattle.colour.specs.declared.Probe.{Probe};
 ghost use Rattle.traversal.specs.Search.{search_entering, reaches, no_search};
 ghost use Rattle.near_path.specs.Best.{closer, unfound, bests};
-ghost use Rattle.near_path.specs.Steps.{search_words, search_in, words_after, search_ranked};
-
-// The places of the closest sample's d², of its octant's row and of its own; of how many octants were entered, and how many samples visited.
-const DISTANCE: usize = 0;
-
-const OCTANT: usize = 1;
-
-const ROW: usize = 2;
-
-const ENTERED: usize = 3;
-
-const VISITED: usize = 4;
+ghost use Rattle.near_path.specs.Steps.{search_as, search_in, search_after, search_ranked};
 
 // What is found: how far it is, its sample row and its tag. If the distance is the limit that the search began with, nothing was found, and row and tag
-// mean nothing.
+// mean nothing. (No Option: what a search keeps is compared and copied at each octant, and this is it with its tag.)
 #[derive(Clone, Copy)]
 pub struct Best {
     pub distance: u64,
@@ -25,73 +14,72 @@ pub struct Best {
     pub tag: u32,
 }
 
-// Before a search.
-pub fn start(limit: u64) -> [u64; 5]
-    ensures { result ≡ search_words (no_search (unfound limit)) }
-{
-    [limit, 0, 0, 0, 0]
+// The closest sample's d², its octant's row and its own; how many octants were entered, and how many samples visited.
+#[derive(Clone, Copy)]
+pub struct Search {
+    pub distance: u64,
+    pub octant: u32,
+    pub row: u32,
+    pub entered: u64,
+    pub visited: u64,
 }
 
-// How far the closest sample is.
-pub fn distance(search: &[u64; 5]) -> u64
-    ensures { result ≡ (search_in search.now).kept.distance }
-{
-    search[DISTANCE]
-}
-
-// Its sample row.
-pub fn row(search: &[u64; 5]) -> u64
-    ensures { result ≡ (search_in search.now).kept.row }
-{
-    search[ROW]
-}
-
-// How many samples were visited.
-pub fn visited(search: &[u64; 5]) -> u64
-    ensures { result ≡ (search_in search.now).visited }
-{
-    search[VISITED]
-}
-
-// Whether what is so far, in the octant in a row, comes before the closest sample.
-fn closer(search: &[u64; 5], distance: u64, octant: u32) -> bool
-    ensures { result ≡ closer (search_in search.now).kept distance octant }
-{
-    if distance == search[DISTANCE] {
-        return (octant as u64) < search[OCTANT];
+impl Search {
+    // Before a search.
+    #[tactic(auto, unfolding(crate::specs::Best::unfound, traversal::specs::Search::no_search))]
+    pub fn new(limit: u64) -> Search
+        ensures { result ≡ search_as (no_search (unfound limit)) }
+    {
+        Search {
+            distance: limit,
+            octant: 0,
+            row: 0,
+            entered: 0,
+            visited: 0,
+        }
     }
-    distance < search[DISTANCE]
-}
 
-// Whether the octant in a row, so far away, is entered: its row is below the limit and not 0, fewer octants than the limit were entered, and it can hold
-// something that comes before the closest sample.
-pub fn reaches(search: &[u64; 5], octant: u32, limit: u32, distance: u64) -> bool
-    ensures { (ws : List ℕ) (p : Probe)
-        → result ≡ reaches (bests ws p) limit octant distance (search_in search.now) }
-{
-    if ((0 < octant) & (octant < limit)) & (search[ENTERED] < (limit as u64)) {
-        return closer(search, distance, octant);
+    // Whether what is so far, in the octant in a row, comes before the closest sample.
+    fn closer(&self, distance: u64, octant: u32) -> bool
+        ensures { result ≡ closer (search_in self.now).kept distance octant }
+    {
+        if distance == self.distance {
+            return octant < self.octant;
+        }
+        distance < self.distance
     }
-    false
-}
 
-// One octant more is entered.
-pub fn enter(search: &mut [u64; 5])
-    requires { (length search.old ≡ 5) × ((search_in search.old).entered < 4294967296) }
-    ensures { search.new ≡ words_after search_entering search.old }
-{
-    search[ENTERED] = search[ENTERED] + 1;
-}
+    // Whether the octant in a row, so far away, is entered: its row is below the limit and not 0, fewer octants than the limit were entered, and it can
+    // hold something that comes before the closest sample.
+    pub fn reaches(&self, octant: u32, limit: u32, distance: u64) -> bool
+        ensures { (ws : List ℕ) (p : Probe)
+            → result ≡ reaches (bests ws p) limit octant distance (search_in self.now) }
+    {
+        if ((0 < octant) & (octant < limit)) & (self.entered < (limit as u64)) {
+            return self.closer(distance, octant);
+        }
+        false
+    }
 
-// Samples of an octant were measured: so many, and this is their least rank.
-pub fn take(search: &mut [u64; 5], octant: u32, rank: u64, seen: u32)
-    requires { (length search.old ≡ 5) × ((search_in search.old).visited ≤ 4294967296) }
-    ensures { search.new ≡ words_after (search_ranked octant rank seen) search.old }
-{
-    search[VISITED] = search[VISITED] + (seen as u64);
-    if closer(search, rank / 4096, octant) {
-        search[DISTANCE] = rank / 4096;
-        search[OCTANT] = octant as u64;
-        search[ROW] = rank % 4096;
+    // One octant more is entered.
+    #[tactic(auto, unfolding(traversal::specs::Search::search_entering))]
+    pub fn enter(&mut self)
+        requires { self.old.entered < 4294967296 }
+        ensures { self.new ≡ search_after search_entering self.old }
+    {
+        self.entered += 1;
+    }
+
+    // Samples of an octant were measured: so many, and this is their least rank.
+    pub fn take(&mut self, octant: u32, rank: u64, seen: u32)
+        requires { self.old.visited ≤ 4294967296 }
+        ensures { self.new ≡ search_after (search_ranked octant rank seen) self.old }
+    {
+        self.visited += seen as u64;
+        if self.closer(rank / 4096, octant) {
+            self.distance = rank / 4096;
+            self.octant = octant;
+            self.row = (rank % 4096) as u32;
+        }
     }
 }

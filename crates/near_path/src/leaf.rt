@@ -1,18 +1,19 @@
-// The samples of an octant, measured by their next words. Nothing is trusted: a row is tested before it is read, and a code brought into range.
+// The samples of an octant, measured by their next words. Nothing is trusted: a code is brought into range.
 ghost use Rattle.std.specs.Prelude.{◌<◌, ◌≡◌, length};
 ghost use Rattle.colour.specs.Probe.{Fine};
 ghost use Rattle.model.specs.Layout.{current, sample_rows};
 ghost use Rattle.words.specs.Rows.{octant_limit};
 ghost use Rattle.traversal.specs.Search.{own_search};
+ghost use Rattle.traversal.specs.Steps.{SearchReady};
 ghost use Rattle.near_path.specs.Best.{rank_of, bests};
-ghost use Rattle.near_path.specs.Steps.{words_after, Measured, Ready};
+ghost use Rattle.near_path.specs.Steps.{search_in, search_after, Measured};
 
-use crate::best::{take, visited};
+use crate::best::Search;
 use colour::distance::squared;
 use colour::{Probe, wrapped};
-use traversal::nearby::least;
 use traversal::octant::most;
-use words::layout::{colour as colour_of, next as next_of, octant_first, sample_rows};
+use traversal::rows::rows_from;
+use words::layout::{colour as colour_of, octant_first};
 
 // What a run of samples came to: the least rank, by how far and then by row, and how many samples it saw.
 #[derive(Clone, Copy)]
@@ -34,35 +35,26 @@ fn measure(samples: &[u32], p: Probe, first: u32, count: u32) -> Run
     requires { Fine p }
     ensures { Measured samples.now p first count result }
 {
-    let rows = sample_rows(samples.len());
-    let mut row = first as usize;
     let mut seen: u32 = 0;
-    let mut best: u64 = 18446744073709551615;
-    while seen < count {
-        if rows <= row {
-            return Run { rank: best, seen };
-        }
-        let here = row;
-        row = next_of(samples, here) as usize;
+    let mut best = u64::MAX;
+    for row in rows_from(samples, first, count) {
         seen += 1;
-        best = least(best, rank(samples, p, here));
+        best = best.min(rank(samples, p, row));
     }
     Run { rank: best, seen }
 }
 
 // An entered octant's own samples.
-pub fn own(samples: &[u32], octants: &[u32], p: Probe, octant: u32, search: &mut [u64; 5])
+pub fn own(samples: &[u32], octants: &[u32], p: Probe, octant: u32, search: &mut Search)
     requires fine { Fine p }
-    requires ready { Ready samples.now octants.now search.old }
+    requires ready { SearchReady samples.now octants.now (search_in search.old) }
     requires octant_bound { octant < octant_limit current octants.now }
     ensures { search.new
-        ≡ words_after (own_search (bests samples.now p) samples.now octants.now octant)
+        ≡ search_after (own_search (bests samples.now p) samples.now octants.now octant)
         search.old }
 {
-    let count = most(samples, octants, octant, visited(search) as u32);
+    let count = most(samples, octants, octant, search.visited as u32);
     let first = octant_first(octants, octant);
     let run = measure(samples, p, first, count);
-    let rank = run.rank;
-    let seen = run.seen;
-    take(search, octant, rank, seen);
+    search.take(octant, run.rank, run.seen);
 }

@@ -4,11 +4,12 @@ ghost use Rattle.std.specs.Prelude.{◌≤◌, ◌<◌, ◌≡◌, length};
 ghost use Rattle.colour.specs.Probe.{Fine};
 ghost use Rattle.model.specs.Layout.{current, sample_header, octant_header};
 ghost use Rattle.words.specs.Rows.{octant_limit};
+ghost use Rattle.traversal.specs.Steps.{SearchReady};
 ghost use Rattle.traversal.specs.Spot.{Stood, Forked, search_at, siblings_at, split_at};
 ghost use Rattle.near_path.specs.Best.{bests, best_of, best_found};
-ghost use Rattle.near_path.specs.Steps.{words_after, search_in, Ready};
+ghost use Rattle.near_path.specs.Steps.{search_after, search_in};
 
-use crate::best::{Best, distance, enter, reaches, row as row_of, start};
+use crate::best::{Best, Search};
 use crate::leaf::own;
 use colour::Probe;
 use colour::distance::square;
@@ -27,23 +28,23 @@ fn siblings(
     row: u32,
     spot: Spot,
     fork: Fork,
-    search: &mut [u64; 5],
+    search: &mut Search,
 )
     requires forked { (Forked p spot fork) × (row < octant_limit current octants.now) }
-    requires ready { Ready samples.now octants.now search.old }
+    requires ready { SearchReady samples.now octants.now (search_in search.old) }
     ensures { search.new
-        ≡ words_after (siblings_at (bests samples.now p) samples.now octants.now p row spot)
+        ≡ search_after (siblings_at (bests samples.now p) samples.now octants.now p row spot)
         search.old }
 {
     let far = far_of(p, spot.cube, fork.half);
     let limit = octant_limit(octants);
-    let mut left = turns(distance(search), spot.near, far);
+    let mut left = turns(search.distance, spot.near, far);
     while left != 0 {
         let turn = first_of(left);
         left = without(left, turn);
         let next = child_at(octants, row, fork.first ^ turn);
         let to = sibling_spot(p, spot, fork, far, turn);
-        if reaches(search, next, limit, sum_by(to.near)) {
+        if search.reaches(next, limit, sum_by(to.near)) {
             visit(samples, octants, p, next, to, search);
         }
     }
@@ -51,18 +52,18 @@ fn siblings(
 
 // A split octant: the closest child, and then its siblings. (In a function of its own: in `visit`, what is handed on would be copied in pieces.)
 #[cycle(siblings_split_visit)]
-fn split(samples: &[u32], octants: &[u32], p: Probe, row: u32, spot: Spot, search: &mut [u64; 5])
+fn split(samples: &[u32], octants: &[u32], p: Probe, row: u32, spot: Spot, search: &mut Search)
     requires stood { (Stood p spot) × (spot.cube.depth < 16) }
     requires row_bound { row < octant_limit current octants.now }
-    requires ready { Ready samples.now octants.now search.old }
+    requires ready { SearchReady samples.now octants.now (search_in search.old) }
     ensures { search.new
-        ≡ words_after (split_at (bests samples.now p) samples.now octants.now p row spot)
+        ≡ search_after (split_at (bests samples.now p) samples.now octants.now p row spot)
         search.old }
 {
     let fork = fork_of(p, spot.cube);
     let next = child_at(octants, row, fork.first);
     let to = closest_spot(p, spot, fork);
-    if reaches(search, next, octant_limit(octants), sum_by(to.near)) {
+    if search.reaches(next, octant_limit(octants), sum_by(to.near)) {
         visit(samples, octants, p, next, to, search);
     }
     siblings(samples, octants, p, row, spot, fork, search);
@@ -70,15 +71,15 @@ fn split(samples: &[u32], octants: &[u32], p: Probe, row: u32, spot: Spot, searc
 
 // Enters the octant in a row: its own samples are measured, or its children are searched.
 #[cycle(siblings_split_visit)]
-fn visit(samples: &[u32], octants: &[u32], p: Probe, row: u32, spot: Spot, search: &mut [u64; 5])
+fn visit(samples: &[u32], octants: &[u32], p: Probe, row: u32, spot: Spot, search: &mut Search)
     requires stood { (Stood p spot) × (row < octant_limit current octants.now) }
-    requires ready { Ready samples.now octants.now search.old }
-    requires search_bound { (search_in search.old).entered < octant_limit current octants.now }
+    requires ready { SearchReady samples.now octants.now (search_in search.old) }
+    requires search_bound { search.old.entered < octant_limit current octants.now }
     ensures { search.new
-        ≡ words_after (search_at (bests samples.now p) samples.now octants.now p row spot)
+        ≡ search_after (search_at (bests samples.now p) samples.now octants.now p row spot)
         search.old }
 {
-    enter(search);
+    search.enter();
     if ends(samples, octants, false, spot.cube.depth, row) {
         own(samples, octants, p, row, search);
         return;
@@ -87,21 +88,19 @@ fn visit(samples: &[u32], octants: &[u32], p: Probe, row: u32, spot: Spot, searc
 }
 
 // What is found, with its tag. The row is tested before it is read.
-fn best_of(samples: &[u32], search: &[u64; 5]) -> Best
+fn best_of(samples: &[u32], search: &Search) -> Best
     ensures { result ≡ best_of samples.now (search_in search.now).kept }
 {
-    let found = row_of(search);
-    let far = distance(search);
-    if found < (sample_rows(samples.len()) as u64) {
-        let row = found as usize;
+    let row = search.row as usize;
+    if row < sample_rows(samples.len()) {
         return Best {
-            distance: far,
-            row: found as u32,
+            distance: search.distance,
+            row: search.row,
             tag: tag_of(samples, row),
         };
     }
     Best {
-        distance: far,
+        distance: search.distance,
         row: 0,
         tag: 0,
     }
@@ -113,7 +112,7 @@ pub fn nearest(samples: &[u32], octants: &[u32], p: Probe, radius: u32) -> Best
     requires headed { (sample_header current ≤ length samples.now) × (octant_header current ≤ length octants.now) }
     ensures { result ≡ best_found samples.now octants.now p radius }
 {
-    let mut search = start(square(radius));
+    let mut search = Search::new(square(radius));
     if 0 < octant_limit(octants) {
         visit(samples, octants, p, 0, root_spot(p), &mut search);
     }

@@ -1,4 +1,4 @@
-// The samples of an octant, measured by their next words. Nothing is trusted: a row is tested before it is read, and a code brought into range.
+// The samples of an octant, measured by their next words. Nothing is trusted: a code is brought into range.
 ghost use Rattle.std.specs.Prelude.{◌<◌, ◌≡◌, length};
 ghost use Rattle.colour.specs.Colour.{InRange};
 ghost use Rattle.model.specs.Layout.{current, sample_rows};
@@ -10,9 +10,8 @@ use crate::best::{Best, taken};
 use colour::distance::squared;
 use colour::{Colour, wrapped};
 use traversal::octant::most;
-use words::layout::{
-    colour as colour_of, next as next_of, octant_first, sample_rows, tag as tag_of,
-};
+use traversal::rows::rows_from;
+use words::layout::{colour as colour_of, octant_first, tag as tag_of};
 
 // What a search has come to: the best so far, how many octants were entered, and how many samples visited.
 #[derive(Clone, Copy)]
@@ -43,18 +42,11 @@ fn measure(samples: &[u32], centre: Colour, octant: u32, first: u32, count: u32,
     requires { InRange centre }
     ensures { Measured samples.now centre octant first count start result }
 {
-    let rows = sample_rows(samples.len());
-    let mut row = first as usize;
     let mut seen: u32 = 0;
     let mut best = start;
-    while seen < count {
-        if rows <= row {
-            return Run { best, seen };
-        }
-        let here = row;
-        row = next_of(samples, here) as usize;
+    for row in rows_from(samples, first, count) {
         seen += 1;
-        best = measure_row(samples, centre, octant, best, here);
+        best = measure_row(samples, centre, octant, best, row);
     }
     Run { best, seen }
 }

@@ -72,10 +72,8 @@ fn visit(
     let half = side(cube.depth + 1);
     let gaps = gaps_of(centre, cube, half);
     let first = closest_child(centre, cube, half);
-    let mut turn: u32 = 0;
-    while turn < CHILDREN {
+    for turn in 0..CHILDREN {
         let k = first ^ turn;
-        turn += 1;
         let next = octant_child(octants, row, k);
         if reaches(search, next, limit, gaps, k) {
             search = visit(samples, octants, centre, next, child(cube, half, k), search);

@@ -1,5 +1,6 @@
 -- What every traversal of the tables reads of an octant, on any words, and the search for what is closest.
 pub mod Own
+pub mod Rows
 pub mod Children
 pub mod Nearby
 pub mod Turns

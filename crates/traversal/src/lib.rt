@@ -3,4 +3,5 @@
 
 pub mod nearby;
 pub mod octant;
+pub mod rows;
 pub mod spot;

@@ -1,6 +1,6 @@
 // How far the children of an octant are from a probe, channel by channel. A probe lies in, or is closest to, one half of each channel: that half is as
 // far as the whole octant, and the other, the far half, lies across the middle. So the eight children share six squares, and three are the octant's own.
-ghost use Rattle.std.specs.Prelude.{suc, ◌+◌, ◌<◌, ◌≤◌, min, ◌≡◌, leb};
+ghost use Rattle.std.specs.Prelude.{suc, ◌+◌, ◌<◌, ◌≤◌, ◌≡◌, leb};
 ghost use Rattle.colour.specs.Probe.{Fine};
 ghost use Rattle.colour.specs.Octant.{side_at, Within};
 ghost use Rattle.colour.specs.Mask.{bit_if};
@@ -70,13 +70,6 @@ pub fn turned(near: Squares, far: Squares, m: u32) -> Squares
     }
 }
 
-// The lesser of two numbers.
-pub fn least(a: u64, b: u64) -> u64
-    ensures { result ≡ min a b }
-{
-    if a < b { a } else { b }
-}
-
 // The weight if three squares add up to no more than the most, else 0.
 fn within(red: u64, green: u64, blue: u64, most: u64, weight: u32) -> u32
     requires { (red ≤ 4294967296) × ((green ≤ 4294967296) × (blue ≤ 4294967296)) }
@@ -109,10 +102,9 @@ pub fn turns(most: u64, near: Squares, far: Squares) -> u32
     requires { NearFar near far }
     ensures { result ≡ turn_mask most near far }
 {
-    let rise = least(
-        far.red - near.red,
-        least(far.green - near.green, far.blue - near.blue),
-    );
+    let rise = (far.red - near.red)
+        .min(far.green - near.green)
+        .min(far.blue - near.blue);
     if most < near.red + near.green + near.blue + rise {
         return 0;
     }

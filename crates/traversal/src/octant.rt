@@ -1,5 +1,5 @@
 // The octant in a row: whether its samples are gone through one by one, how many of them at most, and its children.
-ghost use Rattle.std.specs.Prelude.{◌-◌, ◌<◌, ◌≤◌, min, ◌≡◌, length};
+ghost use Rattle.std.specs.Prelude.{◌-◌, ◌<◌, ◌≤◌, ◌≡◌, length};
 ghost use Rattle.model.specs.Layout.{Count, current, sample_header, octant_rows};
 ghost use Rattle.words.specs.Rows.{settings_in, octant_field, sample_budget};
 ghost use Rattle.traversal.specs.Own.{own_most, ends_at};
@@ -10,13 +10,6 @@ use words::layout::{octant_child, octant_count, sample_budget, settings as setti
 // The depth of an octant of side 1.
 const DEPTHS: u32 = 16;
 
-// The lesser of two numbers.
-fn least(a: u32, b: u32) -> u32
-    ensures { result ≡ min a b }
-{
-    if a < b { a } else { b }
-}
-
 // As many samples as the octant in a row counts, and as may still be visited.
 pub fn most(samples: &[u32], octants: &[u32], row: u32, visited: u32) -> u32
     requires headed { (sample_header current ≤ length samples.now) × (row < octant_rows current (length octants.now)) }
@@ -24,7 +17,7 @@ pub fn most(samples: &[u32], octants: &[u32], row: u32, visited: u32) -> u32
     ensures { result ≡ own_most samples.now octants.now row visited }
 {
     let left = sample_budget(samples) - visited;
-    least(octant_count(octants, row), left)
+    octant_count(octants, row).min(left)
 }
 
 // Whether an octant is gone through sample by sample: it is taken whole, or it is not split.

@@ -1,5 +1,4 @@
 -- What the functions of a pass do, step by step.
-pub mod Tally
 pub mod Following
 pub mod Turning
 pub mod Visiting

@@ -1,9 +1,8 @@
 -- An octant's own samples, measured by their next words.
-use Prim.Native.Nat.{ℕ, zero, suc, ◌+◌, ◌-◌, ◌≤◌, ◌<◌, min}
+use Prim.Native.Nat.{ℕ, zero, suc, ◌+◌, ◌<◌, min}
 use mathlib.Core.Bool.{Bool, true, false}
 use mathlib.Core.List.{List, [], ◌∷◌}
 use mathlib.Core.Path.{◌≡◌, refl, ap, ap₂, ◌∙◌}
-use native.Mathlib.Nat.{sub-zero}
 use native.Mathlib.Omega.{arith}
 use borrow.Author.Tests.{ltb-true}
 use lib.Dec.{ltb}
@@ -19,48 +18,37 @@ use Rattle.words.proofs.Laws.Layout.Places.{rows_few}
 use Rattle.traversal.specs.Own.{rows_from, own_most, own_rows}
 use Rattle.traversal.specs.Search.{Searching, own_search}
 use Rattle.traversal.proofs.Laws.Sound.Each.{All}
-use Rattle.traversal.proofs.Laws.Rows.{rows_more, rows_out, rows_none}
+use Rattle.traversal.proofs.Laws.Rows as Rows
 use Rattle.near_path.specs.declared.leaf.Run.{Run}
 use Rattle.near_path.specs.Best.{Kept, rank_of, least_from, least_rank, top_rank, taken_rank, own_best, bests}
 use Rattle.near_path.specs.Steps.{Measured, search_ranked}
 
 module _ (ws : List ℕ) (p : Probe) (first count : ℕ) where
-  -- What is still to measure.
-  abbrev ahead : ℕ → ℕ → List ℕ
-  ahead seen row = rows_from ws (count - seen) row
+  -- What was measured, and the rows that are still to come, is the whole run.
+  pub record Measuring (ahead : List ℕ) (seen best : ℕ) : Type 0 where
+    pub least : least_from ws p best ahead ≡ least_from ws p top_rank (rows_from ws count first)
+    pub passed : seen + length ahead ≡ length (rows_from ws count first)
 
-  -- What was measured, and what is still to come, is the whole run.
-  pub record Measuring (row seen best : ℕ) : Type 0 where
-    pub least : least_from ws p best (ahead seen row) ≡ least_from ws p top_rank (rows_from ws count first)
-    pub passed : seen + length (ahead seen row) ≡ length (rows_from ws count first)
-    pub few : seen ≤ count
-
-  pub measuring_begins : Measuring first 0 18446744073709551615
+  pub measuring_begins : {ahead : List ℕ} → ahead ≡ rows_from ws count first → Measuring ahead 0 18446744073709551615
   unfolding top_rank
-  measuring_begins =
-      let e : count - 0 ≡ count = sub-zero count in
-      record { least = rw e; passed = rw e (omega arith); few = omega arith }
+  measuring_begins e = rw e (record { least = refl; passed = omega arith })
 
-  module _ {row seen best : ℕ} (g : Measuring row seen best) where
+  module _ {ahead : List ℕ} {seen best : ℕ} (g : Measuring ahead seen best) where
     -- Nothing is left.
-    measuring_ends : ahead seen row ≡ [] → Measured ws p first count (record { rank = best; seen = seen })
+    pub measuring_ends : ahead ≡ [] → Measured ws p first count (record { rank = best; seen = seen })
     unfolding least_from
     measuring_ends e = record { least = rw e at g.least; seen = omega (arith, rw e at g.passed) }
 
-    pub all_seen : count ≤ seen → Measured ws p first count (record { rank = best; seen = seen })
-    all_seen h = measuring_ends (rows_none ws (count - seen) row (omega arith))
-
-    pub rows_end : sample_rows current (length ws) ≤ row → Measured ws p first count (record { rank = best; seen = seen })
-    rows_end h = measuring_ends (rows_out ws (count - seen) row h)
-
     -- One sample more.
-    pub one_more : {row' rank best' : ℕ} → row < sample_rows current (length ws) → seen < count → row' ≡ sample_field current ws row Next
-        → rank ≡ rank_of ws p row → best' ≡ min best rank → Measuring row' (seen + 1) best'
-    unfolding least_from
-    one_more {row'} {rank} {best'} there more next ranked lesser =
-        let e : count - seen - 1 ≡ count - (seen + 1) = omega arith in
-        let step : ahead seen row ≡ row ∷ ahead (seen + 1) row' = rows_more ws (count - seen) row there (omega arith) ∙ rw (e, next) in
-        record { least = rw (lesser, ranked) (rw step at g.least); passed = omega (arith, g.passed, ap length step); few = omega arith }
+    module _ {row : ℕ} {ahead' : List ℕ} (step : ahead ≡ row ∷ ahead') where
+      -- It is within the count.
+      pub more : seen < count
+      more = omega (arith, g.passed, ap length step, Rows.rows_few ws count first)
+
+      pub one_more : {rank best' : ℕ} → rank ≡ rank_of ws p row → best' ≡ min best rank → Measuring ahead' (seen + 1) best'
+      unfolding least_from
+      one_more {rank} {best'} ranked lesser =
+          record { least = rw (lesser, ranked) (rw step at g.least); passed = omega (arith, g.passed, ap length step) }
 
 -- No rank of rows of the table is above the top.
 rank_most : (ws : List ℕ) (p : Probe) (i : ℕ) → Fine p → i < 4096 → min top_rank (rank_of ws p i) ≡ rank_of ws p i

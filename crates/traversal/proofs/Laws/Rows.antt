@@ -5,11 +5,16 @@ use mathlib.Core.List.{List, [], ◌∷◌}
 use mathlib.Core.Path.{◌≡◌, refl}
 use native.Mathlib.Numerals.{sub-one}
 use native.Mathlib.Omega.{arith}
-use borrow.Author.Tests.{lt-ltb, le-ltb}
+use borrow.Author.Tests.{lt-ltb, le-ltb, ltb-true}
 use lib.Dec.{ltb}
-use lib.ListN.{length}
+use lib.ListN.{length, get_or}
 use Rattle.model.specs.Layout.{Next, First, current, sample_rows}
 use Rattle.words.specs.Rows.{sample_field, octant_field, sample_budget}
+use Rattle.std.specs.Prelude.{Option, Some}
+use Rattle.std.specs.Iterator.{Yields, YieldsFirst}
+use Rattle.std.proofs.lemmas.Iterator.Consumers.{YieldsList-from_first, YieldsList-turn}
+use Rattle.traversal.specs.declared.rows.Rows.{Rows}
+use Rattle.traversal.specs.Rows.{rows_left}
 use Rattle.traversal.specs.Own.{rows_from, own_most, own_rows}
 
 module _ (ws : List ℕ) where
@@ -49,3 +54,24 @@ budget_most ws = omega arith
 pub own_few : (ws os : List ℕ) (row visited : ℕ) → length (own_rows ws os row visited) ≤ sample_budget current ws - visited
 unfolding own_rows own_most
 own_few ws os row visited = omega (arith, rows_few ws (own_most ws os row visited) (octant_field current os row First))
+
+-- Each row that is visited is one of the table's.
+rows_in : (ws : List ℕ) (n row k d : ℕ) → k < length (rows_from ws n row) → get_or (rows_from ws n row) k d < sample_rows current (length ws)
+unfolding rows_from
+rows_in ws zero row k d h = absurd (omega arith)
+rows_in ws (suc n) row k d h = go (ltb row (sample_rows current (length ws))) refl (λ k. rows_in ws n (sample_field current ws row Next) k d) k h
+  where
+    go : (r : Bool) → ltb row (sample_rows current (length ws)) ≡ r
+        → ((k : ℕ) → k < length (rows_from ws n (sample_field current ws row Next))
+        → get_or (rows_from ws n (sample_field current ws row Next)) k d < sample_rows current (length ws)) → (k : ℕ) → k < length (rows_from ws (suc n) row)
+        → get_or (rows_from ws (suc n) row) k d < sample_rows current (length ws)
+    go true e f zero h = rw (e, rows_from) (ltb-true _ _ e)
+    go true e f (suc k) h = rw (e, rows_from) (f k (omega (arith, rw (e, rows_from) at h)))
+    go false e f k h = absurd (omega (arith, rw (e, rows_from) at h))
+
+-- So is each that a run gives.
+pub given_row : (ws : List ℕ) (n row : ℕ) (s : Rows) → rows_left s ≡ rows_from ws n row → (xs : List ℕ) (t : Rows) → Yields (YieldsFirst rows_left) s xs t
+    → (r : Option ℕ) (u : Rows) (x : ℕ) → r ≡ Some x → YieldsFirst rows_left t r u → x < sample_rows current (length ws)
+given_row ws n row s e xs t y r u x is steps =
+    let turn = YieldsList-turn (YieldsList-from_first (λ x. x) rows_left (rows_from ws n row) e) xs t y r u x is steps in
+    omega (arith, turn, rows_in ws n row (length xs) x turn.0)

@@ -9,24 +9,23 @@ use lib.Seq.{sets, sets-eq}
 use Rattle.colour.specs.declared.refusal.Refusal.TheVariants.{NoRoom}
 use Rattle.model.specs.Queries.{Counts}
 use Rattle.model.specs.Machine.{list_answer}
-use Rattle.listing.specs.declared.list.Listed.TheVariants as L
+use Rattle.std.specs.Prelude.{Ok, Err}
+use Rattle.listing.specs.declared.tally.Tally as Lent
 use Rattle.listing.specs.Pass.{Tally, Visit, no_tally}
-use Rattle.listing.specs.Steps.{tally_words, listed_in, tally_in, Visited}
+use Rattle.listing.specs.Steps.{tally_of, tally_in, Visited}
 use Rattle.listing.specs.Answers.{listed_answer, counts_of, pass_answer}
-use Rattle.listing.proofs.Laws.Steps.Tally.{words_listed, words_tally}
 use Rattle.listing.proofs.Laws.Answers.Answered.{pass_fits, pass_short}
 
--- What a pass with a fresh tally leaves in the words.
-module _ {v : Visit} {words listing words' listing' : List ℕ} (fresh : words ≡ tally_words 0 no_tally) (d : Visited v words listing words' listing') where
-  none_before : listed_in words ≡ 0
-  none_before = ap listed_in fresh ∙ words_listed 0 no_tally
+-- What a pass with a fresh tally leaves.
+module _ {v : Visit} {lent lent' : Lent.Tally} {listing listing' : List ℕ} (fresh : lent ≡ tally_of 0 no_tally) (d : Visited v lent listing lent' listing') where
+  none_before : lent.listed ≡ 0
+  none_before = ap (λ (t : Lent.Tally). t.listed) fresh
 
-  pub counted_all : listed_in words' ≡ length v.tags
-  counted_all =
-      ap listed_in d.tally ∙ words_listed (listed_in words + length v.tags) v.after ∙ ap (λ (n : ℕ). n + length v.tags) none_before ∙ zero-add (length v.tags)
+  pub counted_all : lent'.listed ≡ length v.tags
+  counted_all = ap (λ (t : Lent.Tally). t.listed) d.tally ∙ ap (λ (n : ℕ). n + length v.tags) none_before ∙ zero-add (length v.tags)
 
-  after : tally_in words' ≡ v.after
-  after = ap tally_in d.tally ∙ words_tally (listed_in words + length v.tags) v.after
+  after : tally_in lent' ≡ v.after
+  after = ap tally_in d.tally
 
   listing_is : length v.tags ≤ length listing → listing' ≡ v.tags ++ drop (length v.tags) listing
   listing_is h =
@@ -35,18 +34,16 @@ module _ {v : Visit} {words listing words' listing' : List ℕ} (fresh : words �
       ∙ sets-eq v.tags listing 0 (omega arith)
       ∙ ap (λ (n : ℕ). v.tags ++ drop n listing) (zero-add (length v.tags))
 
-  pub listed_all : (n e m : ℕ) → length v.tags ≤ length listing → n ≡ listed_in words' → e ≡ (tally_in words').entered → m ≡ (tally_in words').measured
-      → listed_answer (L.All n e m) listing' ≡ pass_answer v listing
+  pub listed_all : length v.tags ≤ length listing
+      → listed_answer (Ok (record { listed = lent'.listed; entered = lent'.entered; measured = lent'.measured })) listing' ≡ pass_answer v listing
   unfolding listed_answer counts_of
-  listed_all n e m h a b c =
-      let entered : e ≡ v.after.entered = b ∙ ap (λ (t : Tally). t.entered) after in
-      let measured : m ≡ v.after.measured = c ∙ ap (λ (t : Tally). t.measured) after in
-      let counts : record { entered = e; measured = m } ≡ counts_of v = λ i. record { entered = entered i; measured = measured i } in
+  listed_all h =
+      let counts : record { entered = lent'.entered; measured = lent'.measured } ≡ counts_of v = ap (λ (t : Tally). record { entered = t.entered; measured = t.measured }) after in
       rw (pass_fits v listing h)
-      (ap₂ (λ (k : ℕ) (x : Counts). list_answer 0 k x listing') (a ∙ counted_all) counts
+      (ap₂ (λ (k : ℕ) (x : Counts). list_answer 0 k x listing') counted_all counts
       ∙ ap (list_answer 0 (length v.tags) (counts_of v)) (listing_is h))
 
 -- A listing that is too short.
-pub no_room : (v : Visit) (listing : List ℕ) → length listing < length v.tags → listed_answer (L.Refused NoRoom) listing ≡ pass_answer v listing
+pub no_room : (v : Visit) (listing : List ℕ) → length listing < length v.tags → listed_answer (Err NoRoom) listing ≡ pass_answer v listing
 unfolding listed_answer
 no_room v listing h = sym (pass_short v listing h)

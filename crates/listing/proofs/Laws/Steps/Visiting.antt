@@ -19,12 +19,12 @@ use Rattle.model.specs.Layout.{First, Count, current}
 use Rattle.words.specs.Rows.{settings_in, octant_field, octant_limit, sample_budget}
 use Rattle.listing.specs.declared.follow.Run.{Run}
 use Rattle.listing.specs.Pass.{Tally, Visit, tags_of, visiting, tally_entering, own_samples, visit_each, ends, visit_of}
-use Rattle.listing.specs.Steps.{TallyWithin, tally_words, listed_in, tally_in, Counting, Followed, Visited}
+use Rattle.listing.specs.declared.tally.Tally as Lent
+use Rattle.listing.specs.Steps.{TallyWithin, tally_of, tally_in, Counting, Followed, Visited}
 use Rattle.traversal.specs.Own.{rows_from, own_most, own_rows, ends_at}
 use Rattle.traversal.proofs.Laws.Rows.{budget_most, own_few}
 use Rattle.traversal.proofs.Laws.Cubes.{half_is, child_depth}
 use Rattle.listing.proofs.Laws.Pass.Bounds.{entering_within}
-use Rattle.listing.proofs.Laws.Steps.Tally.{words_five, words_listed, words_tally}
 use Rattle.listing.proofs.Laws.Steps.Turning.{turn}
 
 -- A row that may be entered.
@@ -52,43 +52,43 @@ module _ (ws os : List ℕ) (R : Region) (row : ℕ) (low : Colour) (t : Tally) 
   visit_turns zero e = absurd (omega (arith, ends_deep zero e))
   visit_turns (suc j) e = rw (sub-one, e, visit_of)
 
--- An octant's own samples, gone through by their next words and counted.
-module _ (ws os : List ℕ) (R : Region) (whole : Bool) (row : ℕ) (words : List ℕ) where
+-- An octant's own samples, gone through by their next lent and counted.
+module _ (ws os : List ℕ) (R : Region) (whole : Bool) (row : ℕ) (lent : Lent.Tally) where
   abbrev most : ℕ
-  most = own_most ws os row (tally_in words).visited
+  most = own_most ws os row (tally_in lent).visited
 
   -- They are within the budget.
   pub own_room : (first most' seen : ℕ) → first ≡ octant_field current os row First → most' ≡ most → seen ≡ length (rows_from ws most' first)
-      → (tally_in words).visited ≤ sample_budget current ws → (tally_in words).visited + seen ≤ sample_budget current ws
+      → (tally_in lent).visited ≤ sample_budget current ws → (tally_in lent).visited + seen ≤ sample_budget current ws
   unfolding own_rows
   own_room first most' seen a m e v =
-      omega (arith, e ∙ ap length (ap₂ (rows_from ws) m a), own_few ws os row (tally_in words).visited, v)
+      omega (arith, e ∙ ap length (ap₂ (rows_from ws) m a), own_few ws os row (tally_in lent).visited, v)
 
   -- The listing has room to count them in.
-  pub own_start : (most' start : ℕ) → start ≡ listed_in words → most' ≡ most → Counting ws os words → start + most' ≤ 8192
+  pub own_start : (most' start : ℕ) → start ≡ lent.listed → most' ≡ most → Counting ws os lent → start + most' ≤ 8192
   unfolding own_most
   own_start most' start e m c = omega (arith, c.listed, c.limits.visited, budget_most ws)
 
-  pub own_counted : (first most' start : ℕ) (run : Run) {listing words' listing' : List ℕ} → first ≡ octant_field current os row First → most' ≡ most
-      → start ≡ listed_in words → Followed ws R whole first most' start listing run listing'
-      → words' ≡ tally_words run.end (visiting whole run.seen (tally_in words))
-      → Visited (own_samples ws os R whole row (tally_in words)) words listing words' listing'
+  pub own_counted : (first most' start : ℕ) (run : Run) {lent' : Lent.Tally} {listing listing' : List ℕ} → first ≡ octant_field current os row First → most' ≡ most
+      → start ≡ lent.listed → Followed ws R whole first most' start listing run listing'
+      → lent' ≡ tally_of run.end (visiting whole run.seen (tally_in lent))
+      → Visited (own_samples ws os R whole row (tally_in lent)) lent listing lent' listing'
   unfolding own_samples own_rows
-  own_counted first most' start run {listing} {words'} {listing'} a m b f e =
+  own_counted first most' start run {lent'} {listing} {listing'} a m b f e =
       let rows : rows_from ws most' first ≡ rows_from ws most (octant_field current os row First) = ap₂ (rows_from ws) m a in
       let tags = ap (tags_of ws R whole) rows in
       record {
         tally =
             e
-            ∙ ap₂ (λ (n k : ℕ). tally_words n (visiting whole k (tally_in words)))
+            ∙ ap₂ (λ (n k : ℕ). tally_of n (visiting whole k (tally_in lent)))
             (f.end ∙ ap₂ (λ (n : ℕ) (l : List ℕ). n + length l) b tags) (f.seen ∙ ap length rows);
         tags = f.tags ∙ ap₂ (λ (n : ℕ) (l : List ℕ). sets listing n l) b tags;
       }
 
 -- In an octant given by its cube, that was entered.
-module _ (ws os : List ℕ) (R : Region) (row : ℕ) (cube : Cube) (words words₁ : List ℕ) (within : Within cube) (c : Counting ws os words)
-    (past : (tally_in words).next ≤ row) (lim : row < octant_limit current os)
-    (into : words₁ ≡ tally_words (listed_in words) (tally_entering row (tally_in words))) where
+module _ (ws os : List ℕ) (R : Region) (row : ℕ) (cube : Cube) (lent lent₁ : Lent.Tally) (within : Within cube) (c : Counting ws os lent)
+    (past : (tally_in lent).next ≤ row) (lim : row < octant_limit current os)
+    (into : lent₁ ≡ tally_of (lent.listed) (tally_entering row (tally_in lent))) where
   abbrev left : ℕ
   left = 16 - cube.depth
 
@@ -96,31 +96,30 @@ module _ (ws os : List ℕ) (R : Region) (row : ℕ) (cube : Cube) (words words�
   unfolding side_at depths
   side_is = within.sized
 
-  said : tally_in words₁ ≡ tally_entering row (tally_in words)
-  said = ap tally_in into ∙ words_tally (listed_in words) (tally_entering row (tally_in words))
+  said : tally_in lent₁ ≡ tally_entering row (tally_in lent)
+  said = ap tally_in into
 
-  many : listed_in words₁ ≡ listed_in words
-  many = ap listed_in into ∙ words_listed (listed_in words) (tally_entering row (tally_in words))
+  many : lent₁.listed ≡ lent.listed
+  many = ap (λ (t : Lent.Tally). t.listed) into
 
-  pub entered_counting : Counting ws os words₁
+  pub entered_counting : Counting ws os lent₁
   unfolding tally_entering
   entered_counting =
       record {
         samples = c.samples;
         octants = c.octants;
         small = c.small;
-        five = ap length into ∙ words_five (listed_in words) (tally_entering row (tally_in words));
         limits =
             subst (TallyWithin (sample_budget current ws) (octant_limit current os)) (sym said)
-            (entering_within (sample_budget current ws) (octant_limit current os) row (tally_in words) past lim c.limits);
+            (entering_within (sample_budget current ws) (octant_limit current os) row (tally_in lent) past lim c.limits);
         listed = omega (arith, many, ap (λ (t : Tally). t.visited) said, c.listed);
       }
 
-  -- From the words before the octant was entered.
-  from_before : {v : Visit} {listing words' listing' : List ℕ} → Visited v words₁ listing words' listing' → Visited v words listing words' listing'
-  from_before {v} {listing} d =
+  -- From the lent before the octant was entered.
+  from_before : {v : Visit} {lent' : Lent.Tally} {listing listing' : List ℕ} → Visited v lent₁ listing lent' listing' → Visited v lent listing lent' listing'
+  from_before {v} {lent'} {listing} d =
       record {
-        tally = d.tally ∙ ap (λ (n : ℕ). tally_words (n + length v.tags) v.after) many;
+        tally = d.tally ∙ ap (λ (n : ℕ). tally_of (n + length v.tags) v.after) many;
         tags = d.tags ∙ ap (λ (n : ℕ). sets listing n v.tags) many;
       }
 
@@ -135,25 +134,25 @@ module _ (ws os : List ℕ) (R : Region) (row : ℕ) (cube : Cube) (words words�
     ends_is =
         sym (tells ∙ ap (λ (w : Bool). ends_at left w (octant_field current os row Count) (settings_in current ws).bucket) whole_is)
 
-    pub own_visited : e ≡ true → {listing words' listing' : List ℕ} → Visited (own_samples ws os R whole row (tally_in words₁)) words₁ listing words' listing'
-        → Visited (visit_of ws os R left row cube.low (tally_in words)) words listing words' listing'
-    own_visited y {listing} {words'} {listing'} d =
-        let same : own_samples ws os R whole row (tally_in words₁) ≡ visit_of ws os R left row cube.low (tally_in words) =
+    pub own_visited : e ≡ true → {lent' : Lent.Tally} {listing listing' : List ℕ} → Visited (own_samples ws os R whole row (tally_in lent₁)) lent₁ listing lent' listing'
+        → Visited (visit_of ws os R left row cube.low (tally_in lent)) lent listing lent' listing'
+    own_visited y {lent'} {listing} {listing'} d =
+        let same : own_samples ws os R whole row (tally_in lent₁) ≡ visit_of ws os R left row cube.low (tally_in lent) =
         ap₂ (λ (w : Bool) (t : Tally). own_samples ws os R w row t) whole_is said
-        ∙ sym (visit_own ws os R row cube.low (tally_in words) left (ends_is ∙ y)) in
-        from_before (subst (λ (v : Visit). Visited v words₁ listing words' listing') same d)
+        ∙ sym (visit_own ws os R row cube.low (tally_in lent) left (ends_is ∙ y)) in
+        from_before (subst (λ (v : Visit). Visited v lent₁ listing lent' listing') same d)
 
     pub deep : e ≡ false → cube.depth < 16
-    deep n = omega (arith, ends_deep ws os R row cube.low (tally_in words) left (ends_is ∙ n))
+    deep n = omega (arith, ends_deep ws os R row cube.low (tally_in lent) left (ends_is ∙ n))
 
-    pub turns_visited : e ≡ false → {listing words' listing' : List ℕ}
-        → Visited (visit_each (turn ws os R (left - 1) row cube.low) children (tally_in words₁)) words₁ listing words' listing'
-        → Visited (visit_of ws os R left row cube.low (tally_in words)) words listing words' listing'
-    turns_visited n {listing} {words'} {listing'} d =
-        let same : visit_each (turn ws os R (left - 1) row cube.low) children (tally_in words₁) ≡ visit_of ws os R left row cube.low (tally_in words) =
+    pub turns_visited : e ≡ false → {lent' : Lent.Tally} {listing listing' : List ℕ}
+        → Visited (visit_each (turn ws os R (left - 1) row cube.low) children (tally_in lent₁)) lent₁ listing lent' listing'
+        → Visited (visit_of ws os R left row cube.low (tally_in lent)) lent listing lent' listing'
+    turns_visited n {lent'} {listing} {listing'} d =
+        let same : visit_each (turn ws os R (left - 1) row cube.low) children (tally_in lent₁) ≡ visit_of ws os R left row cube.low (tally_in lent) =
         ap (visit_each (turn ws os R (left - 1) row cube.low) children) said
-        ∙ sym (visit_turns ws os R row cube.low (tally_in words) left (ends_is ∙ n)) in
-        from_before (subst (λ (v : Visit). Visited v words₁ listing words' listing') same d)
+        ∙ sym (visit_turns ws os R row cube.low (tally_in lent) left (ends_is ∙ n)) in
+        from_before (subst (λ (v : Visit). Visited v lent₁ listing lent' listing') same d)
 
 -- The children's side, and a child's visit, by its cube.
 module _ (cube : Cube) (half : ℕ) (told : half ≡ side_at (suc cube.depth)) where
@@ -172,9 +171,9 @@ module _ (cube : Cube) (half : ℕ) (told : half ≡ side_at (suc cube.depth)) w
       ap₂ (λ (n : ℕ) (l : Colour). visit_of ws os R n row l t) left low
 
   pub child_visited : (ws os : List ℕ) (R : Region) (k row row' : ℕ) (child : Cube) → child ≡ child_cube cube k → row' ≡ row
-      → {words listing words' listing' : List ℕ}
-      → Visited (visit_of ws os R (16 - child.depth) row' child.low (tally_in words)) words listing words' listing'
-      → Visited (visit_of ws os R (16 - cube.depth - 1) row (child_low (2 ^ (16 - cube.depth - 1)) k cube.low) (tally_in words)) words listing words' listing'
-  child_visited ws os R k row row' child e f {words} {listing} {words'} {listing'} d =
-      subst (λ (w : Visit). Visited w words listing words' listing') (child_visit_lem ws os R row k (tally_in words) child e)
-      (subst (λ (r : ℕ). Visited (visit_of ws os R (16 - child.depth) r child.low (tally_in words)) words listing words' listing') f d)
+      → {lent lent' : Lent.Tally} {listing listing' : List ℕ}
+      → Visited (visit_of ws os R (16 - child.depth) row' child.low (tally_in lent)) lent listing lent' listing'
+      → Visited (visit_of ws os R (16 - cube.depth - 1) row (child_low (2 ^ (16 - cube.depth - 1)) k cube.low) (tally_in lent)) lent listing lent' listing'
+  child_visited ws os R k row row' child e f {lent} {lent'} {listing} {listing'} d =
+      subst (λ (w : Visit). Visited w lent listing lent' listing') (child_visit_lem ws os R row k (tally_in lent) child e)
+      (subst (λ (r : ℕ). Visited (visit_of ws os R (16 - child.depth) r child.low (tally_in lent)) lent listing lent' listing') f d)

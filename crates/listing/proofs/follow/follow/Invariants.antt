@@ -1,12 +1,8 @@
 -- `follow::follow`: what was listed and seen, and what is still to come, is the whole run.
-use Prim.Native.Nat.{◌-◌}
+use Rattle.traversal.specs.Rows.{rows_left}
 use Rattle.listing.proofs.Laws.Steps.Following.{Following}
 use Rattle.listing.proofs.follow.follow.Given as goal
 
-abbrev pub invariant-loop-seen : goal.invariant-loop-seen
-invariant-loop-seen l =
-    Following l.samples l.region l.whole l.first l.count l.start l.initial.listing l.listing l.row l.seen l.end
-
-abbrev pub decreases-loop-seen : goal.decreases-loop-seen
-decreases-loop-seen l =
-    l.count - l.seen
+abbrev pub invariant-loop-row : goal.invariant-loop-row
+invariant-loop-row l =
+    Following l.samples l.region l.whole l.first l.count l.start l.initial.listing l.listing (rows_left l.row-iterator) l.seen l.end

@@ -1,8 +1,7 @@
 -- `list::how_many`: what a pass with a fresh tally counted.
-use mathlib.Core.Path.{◌∙◌}
 use Rattle.listing.proofs.Laws.Answers.Listing.{counted_all}
 use Rattle.listing.proofs.list.how_many.Goals as goal
 
 pub returns : goal.returns
 returns c =
-    c.listed.ensures ∙ counted_all c.none-tally.ensures c.pass.ensures.visited
+    counted_all c.new-tally.ensures c.pass.ensures.visited

@@ -4,4 +4,4 @@ use Rattle.listing.proofs.list.write.Goals as goal
 
 pub returns : goal.returns
 returns c =
-    listed_all c.none-tally.ensures c.pass.ensures.visited _ _ _ c.requires.room c.listed.ensures c.entered.ensures c.measured.ensures
+    listed_all c.new-tally.ensures c.pass.ensures.visited c.requires.room

@@ -13,7 +13,7 @@ use Rattle.listing.proofs.Laws.Steps.Visiting.{allowed_row, entered_counting, ow
 use Rattle.listing.proofs.visit.+visit.Goals as goal
 use Rattle.listing.proofs.visit.+visit.Goals.{After-enter, Else-ends, After-side-half, After-first-k, After-may_enter}
 
-after_enter : (t : ℕ) (c : After-enter t) → Counting c.args.samples.now c.args.octants.now c.enter.new.tally
+after_enter : (t : ℕ) (c : After-enter t) → Counting c.args.samples.now c.args.octants.now c.enter.new.self
 after_enter t c =
     let p = c.requires in
     entered_counting _ _ c.args.region _ _ _ _ p.within p.counting p.next_bound.0 p.next_bound.1 c.enter.ensures
@@ -46,7 +46,7 @@ permitted t c =
 pub enter-requires : goal.enter-requires
 enter-requires t c =
     let k = c.requires.counting in
-    (k.five, (omega (arith, k.limits.entered, c.requires.next_bound), omega (arith, k.small, c.requires.next_bound)))
+    (omega (arith, k.limits.entered, c.requires.next_bound), omega (arith, k.small, c.requires.next_bound))
 
 pub inside-whole-requires : goal.inside-whole-requires
 inside-whole-requires t c = (c.requires.fair, c.requires.within)
@@ -82,7 +82,7 @@ overlapping-left-requires t c =
 pub loop-left-init : goal.loop-left-init
 loop-left-init t c =
     let at = goal.at.loop-left-init t c in
-    turning_begins _ _ _ _ _ _ _ _ _ (after_enter t at.After-enter).five (mask_is c.args.cube _ (halved t at.After-side-half) _ _ c.overlapping-left.ensures.is)
+    turning_begins _ _ _ _ _ _ _ _ _ (mask_is c.args.cube _ (halved t at.After-side-half) _ _ c.overlapping-left.ensures.is)
 
 pub without-left-requires : goal.without-left-requires
 without-left-requires t c =

@@ -1,22 +1,27 @@
 -- `leaf::measure`: what was measured, and what is still to come, is the whole run.
+use mathlib.Core.Path.{◌∙◌, ap}
 use native.Mathlib.Omega.{arith}
-use Rattle.near_path.proofs.Laws.Measuring.{measuring_begins, all_seen, rows_end, one_more}
+use Rattle.traversal.specs.Rows.{rows_left}
+use Rattle.traversal.proofs.Laws.Rows.{given_row}
+use Rattle.near_path.proofs.Laws.Measuring.{measuring_begins, measuring_ends, more, one_more}
 use Rattle.near_path.proofs.leaf.measure.Goals as goal
 
-pub loop-seen-init : goal.loop-seen-init
-loop-seen-init c =
-    measuring_begins _ _ _ _
+pub loop-row-init : goal.loop-row-init
+loop-row-init c = measuring_begins _ _ _ _ (ap rows_left c.into_iter-row-iterator.ensures.into_iter_gives ∙ c.rows_from-row-items.ensures)
 
-pub returns-then-rows-row : goal.returns-then-rows-row
-returns-then-rows-row c =
-    rows_end _ _ _ _ c.loop-seen.invariant (omega (arith, c.if-rows-row.true, c.sample_rows-rows.ensures.is))
+pub overflow_add-seen : goal.overflow_add-seen
+overflow_add-seen c = omega (arith, more _ _ _ _ c.loop-row.invariant c.in-Some.ensures.steps)
 
-pub loop-seen-preserved : goal.loop-seen-preserved
-loop-seen-preserved c =
-    one_more _ _ _ _ c.loop-seen.invariant (omega (arith, c.if-rows-row.false, c.sample_rows-rows.ensures.is))
-    c.loop-seen-test.true
-    c.next-row.ensures c.rank.ensures c.least-best.ensures
+pub rank-requires : goal.rank-requires
+rank-requires c = (
+  c.requires,
+  given_row c.args.samples.now c.args.count c.args.first c.into_iter-row-iterator.result
+      (ap rows_left c.into_iter-row-iterator.ensures.into_iter_gives ∙ c.rows_from-row-items.ensures)
+      c.loop-row.yielded c.loop-row.row-iterator c.loop-row.yielded_by c.next.result c.next.new.self c.in-Some.row c.in-Some.is c.next.ensures.steps,
+)
+
+pub loop-row-preserved : goal.loop-row-preserved
+loop-row-preserved c = one_more _ _ _ _ c.loop-row.invariant c.in-Some.ensures.steps c.rank.ensures c.min-best.ensures
 
 pub returns : goal.returns
-returns c =
-    all_seen _ _ _ _ c.loop-seen.invariant c.loop-seen-test.false
+returns c = measuring_ends _ _ _ _ c.loop-row.invariant c.in-None.ensures.steps.0

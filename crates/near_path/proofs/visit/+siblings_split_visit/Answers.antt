@@ -4,7 +4,6 @@ use Prim.Native.Nat.{ℕ, ◌<◌}
 use mathlib.Core.List.{List}
 use mathlib.Core.Path.{◌≡◌, sym, ap, ◌∙◌, subst}
 use native.Mathlib.Omega.{arith}
-use lib.ListN.{length}
 use lib.Pow.{pow_pos}
 use Rattle.colour.specs.declared.Probe.{Probe}
 use Rattle.colour.specs.Octant.{depths}
@@ -12,39 +11,39 @@ use Rattle.colour.proofs.Laws.Mask.{First}
 use Rattle.traversal.specs.declared.nearby.Squares.{Squares}
 use Rattle.traversal.specs.declared.spot.Spot.{Spot}
 use Rattle.traversal.specs.declared.spot.Fork.{Fork}
-use Rattle.traversal.specs.Nearby.{turn_mask, turn_within, far_of, SmallSquares}
+use Rattle.traversal.specs.Nearby.{turn_within, far_of, SmallSquares}
 use Rattle.traversal.specs.Children.{child_at}
 use Rattle.traversal.specs.Search.{Searching, search_entering, own_search}
-use Rattle.traversal.specs.Spot.{Stood, Forked, fork_of, search_at, turn_at, siblings_at, split_at}
+use Rattle.traversal.specs.Spot.{Stood, Forked, fork_of, turn_at, siblings_at, split_at}
 use Rattle.traversal.proofs.Laws.Cubes.{limit_rows}
 use Rattle.traversal.proofs.Laws.Search.Keeps.{entering_within, still_ready}
 use Rattle.traversal.proofs.Laws.Search.Spots.{fork_half, first_small, kid_small, kid_turn, kid_first, far_rising, turn_small}
 use Rattle.traversal.proofs.Laws.Search.Spots.{Told, turn_told, told_barred, told_entered, told_room, told_stood, told_depth, search_own, search_deep, search_split, turn_at_within}
 use Rattle.traversal.proofs.Laws.Search.Path.{Siblings, turning_begins, next_is, turning_barred, turning_visited, turning_ends}
 use Rattle.near_path.specs.Best.{Kept, bests}
-use Rattle.near_path.specs.Steps.{search_words, search_in, words_after, Ready}
+use Rattle.traversal.specs.Steps.{SearchReady}
+use Rattle.near_path.specs.declared.best.Search.{Search}
+use Rattle.near_path.specs.Steps.{search_as, search_in, search_after}
 use Rattle.near_path.proofs.Laws.Closer.{best_steady, best_beyond}
-use Rattle.near_path.proofs.Laws.Words.{five_words, words_five, words_search}
-use Rattle.near_path.proofs.Laws.Starting.{words_ready}
+use Rattle.near_path.proofs.Laws.Starting.{lent_ready}
 use Rattle.near_path.proofs.visit.+siblings_split_visit.Goals as goal
 use Rattle.near_path.proofs.visit.+siblings_split_visit.Goals.{siblings-In-loop-left, siblings-After-first-turn, siblings-After-reaches, split-After-reaches, split-Joined-reaches, split-then-reaches, split-else-reaches, visit-After-enter}
 
 -- What is known of the siblings when the loop begins.
-known : (ws words : List ℕ) {p : Probe} {spot : Spot} {fork : Fork} {far : Squares} → Forked p spot fork → far ≡ far_of p fork.half spot.cube.low
-    → Siblings (bests ws p) p spot fork far (search_in words).kept.distance (search_in words)
-known ws words f e =
-    record { forked = f; far_is = e; beyond = best_beyond (search_in words).kept; steady = best_steady _ _ }
+known : (ws : List ℕ) (lent : Search) {p : Probe} {spot : Spot} {fork : Fork} {far : Squares} → Forked p spot fork → far ≡ far_of p fork.half spot.cube.low
+    → Siblings (bests ws p) p spot fork far (search_in lent).kept.distance (search_in lent)
+known ws lent f e =
+    record { forked = f; far_is = e; beyond = best_beyond (search_in lent).kept; steady = best_steady _ _ }
 
-turning : (t : ℕ) (c : siblings-In-loop-left t) → Ready c.args.samples.now c.args.octants.now c.loop-left.search
-turning t c =
-    record { five = c.loop-left.invariant.0; search = still_ready c.requires.ready.search c.loop-left.invariant.1.limits }
+turning : (t : ℕ) (c : siblings-In-loop-left t) → SearchReady c.args.samples.now c.args.octants.now (search_in c.loop-left.search)
+turning t c = still_ready c.requires.ready c.loop-left.invariant.limits
 
 -- The sibling that is next, and what is told of its turn.
 found : (t : ℕ) (c : siblings-After-first-turn t)
-    → First (turn_within (search_in c.args.search.now).kept.distance c.args.spot.near c.far_of-far.result) c.loop-left.invariant.1.done 8 c.loop-left.left
+    → First (turn_within (search_in c.args.search.now).kept.distance c.args.spot.near c.far_of-far.result) c.loop-left.invariant.done 8 c.loop-left.left
     c.first-turn.result
 found t c =
-    next_is (known c.args.samples.now c.args.search.now c.requires.forked.0 c.far_of-far.ensures) c.loop-left.invariant.1 c.loop-left-test.true
+    next_is (known c.args.samples.now c.args.search.now c.requires.forked.0 c.far_of-far.ensures) c.loop-left.invariant c.loop-left-test.true
     c.first-turn.ensures
 
 told : (t : ℕ) (c : siblings-After-reaches t)
@@ -61,11 +60,7 @@ pub siblings-turns-left-requires : goal.siblings-turns-left-requires
 siblings-turns-left-requires t c = far_rising c.requires.forked.0 c.far_of-far.ensures
 
 pub siblings-loop-left-init : goal.siblings-loop-left-init
-siblings-loop-left-init t c = (
-  c.requires.ready.five,
-  turning_begins _ _ _ _ _ _ _ _ _ c.requires.ready.search.limits
-      (c.turns-left.ensures ∙ ap (λ (n : ℕ). turn_mask n c.args.spot.near c.far_of-far.result) c.distance.ensures),
-)
+siblings-loop-left-init t c = turning_begins _ _ _ _ _ _ _ _ _ c.requires.ready.limits c.turns-left.ensures
 
 pub siblings-without-left-requires : goal.siblings-without-left-requires
 siblings-without-left-requires t c =
@@ -98,13 +93,8 @@ siblings-loop-left-smaller-then-reaches t c =
 pub siblings-loop-left-preserved-then-reaches : goal.siblings-loop-left-preserved-then-reaches
 siblings-loop-left-preserved-then-reaches t c =
     let at = goal.at.siblings-loop-left-preserved-then-reaches t c in
-    let goes : Searching Kept → Searching Kept =
-    search_at (bests c.args.samples.now c.args.p) c.args.samples.now c.args.octants.now c.args.p c.child_at-next.result c.sibling_spot-to.result in (
-      ap length c.visit.ensures ∙ words_five (goes (search_in c.loop-left.search)),
-      turning_visited (known c.args.samples.now c.args.search.now c.requires.forked.0 c.far_of-far.ensures) c.loop-left.invariant.1 c.loop-left-test.true
-          c.first-turn.ensures c.without-left.ensures (subst (Told _ _ _ _ _ _ _ _ _ _) c.if-reaches.true (told t at.After-reaches))
-          (ap search_in c.visit.ensures ∙ words_search (goes (search_in c.loop-left.search))),
-    )
+    turning_visited (known c.args.samples.now c.args.search.now c.requires.forked.0 c.far_of-far.ensures) c.loop-left.invariant c.loop-left-test.true
+    c.first-turn.ensures c.without-left.ensures (subst (Told _ _ _ _ _ _ _ _ _ _) c.if-reaches.true (told t at.After-reaches)) (ap search_in c.visit.ensures)
 
 pub siblings-loop-left-smaller : goal.siblings-loop-left-smaller
 siblings-loop-left-smaller t c =
@@ -113,17 +103,14 @@ siblings-loop-left-smaller t c =
 
 pub siblings-loop-left-preserved : goal.siblings-loop-left-preserved
 siblings-loop-left-preserved t c =
-    let at = goal.at.siblings-loop-left-preserved t c in (
-      c.loop-left.invariant.0,
-      turning_barred (known c.args.samples.now c.args.search.now c.requires.forked.0 c.far_of-far.ensures) c.loop-left.invariant.1 c.loop-left-test.true
-          c.first-turn.ensures c.without-left.ensures (subst (Told _ _ _ _ _ _ _ _ _ _) c.if-reaches.false (told t at.After-reaches)),
-    )
+    let at = goal.at.siblings-loop-left-preserved t c in
+    turning_barred (known c.args.samples.now c.args.search.now c.requires.forked.0 c.far_of-far.ensures) c.loop-left.invariant c.loop-left-test.true
+    c.first-turn.ensures c.without-left.ensures (subst (Told _ _ _ _ _ _ _ _ _ _) c.if-reaches.false (told t at.After-reaches))
 
 pub siblings-returns : goal.siblings-returns
 siblings-returns t c =
-    five_words c.loop-left.search c.loop-left.invariant.0
-    ∙ ap search_words
-    (turning_ends (known c.args.samples.now c.args.search.now c.requires.forked.0 c.far_of-far.ensures) c.loop-left.invariant.1 c.loop-left-test.false)
+    ap search_as
+    (turning_ends (known c.args.samples.now c.args.search.now c.requires.forked.0 c.far_of-far.ensures) c.loop-left.invariant c.loop-left-test.false)
 
 -- Where the children of an octant are gone through.
 parted : {p : Probe} {spot : Spot} {fork : Fork} → (Stood p spot) × (spot.cube.depth < 16) → fork ≡ fork_of p spot.cube → Forked p spot fork
@@ -143,14 +130,13 @@ first_turn : (t : ℕ) (c : split-Joined-reaches t)
     → Told (bests c.args.samples.now c.args.p) c.args.samples.now c.args.octants.now c.args.p c.args.row c.args.spot 0 (search_in c.args.search.now)
     c.child_at-next.result c.closest_spot-to.result c.reaches.result
     → c.if-reaches.search
-    ≡ words_after (turn_at (bests c.args.samples.now c.args.p) c.args.samples.now c.args.octants.now c.args.p c.args.row c.args.spot 0) c.args.search.now
+    ≡ search_after (turn_at (bests c.args.samples.now c.args.p) c.args.samples.now c.args.octants.now c.args.p c.args.row c.args.spot 0) c.args.search.now
 first_turn t c d =
     elim c.if-reaches.branch [
       | split-then-reaches w ↦
-          w.search-is ∙ w.visit.ensures ∙ ap search_words (sym (told_entered (subst (Told _ _ _ _ _ _ _ _ _ _) w.if-reaches.true d)))
+          w.search-is ∙ w.visit.ensures ∙ ap search_as (sym (told_entered (subst (Told _ _ _ _ _ _ _ _ _ _) w.if-reaches.true d)))
       | split-else-reaches w ↦
-          w.search-is ∙ five_words c.args.search.now c.requires.ready.five
-          ∙ ap search_words (sym (told_barred (subst (Told _ _ _ _ _ _ _ _ _ _) w.if-reaches.false d)))
+          w.search-is ∙ ap search_as (sym (told_barred (subst (Told _ _ _ _ _ _ _ _ _ _) w.if-reaches.false d)))
     ]
 
 pub split-child_at-next-requires : goal.split-child_at-next-requires
@@ -175,8 +161,8 @@ split-siblings-requires t c =
       omega (arith, c.decreases),
       (
         (parted c.requires.stood c.fork_of-fork.ensures, c.requires.row_bound),
-        words_ready c.requires.ready _ (first_turn t at.Joined-reaches (closest t at.After-reaches))
-            (turn_at_within (bests c.args.samples.now c.args.p) c.args.samples.now c.args.octants.now c.args.p c.args.row c.args.spot 0 c.requires.ready.search.limits),
+        lent_ready c.requires.ready _ (first_turn t at.Joined-reaches (closest t at.After-reaches))
+            (turn_at_within (bests c.args.samples.now c.args.p) c.args.samples.now c.args.octants.now c.args.p c.args.row c.args.spot 0 c.requires.ready.limits),
       ),
     )
 
@@ -185,21 +171,21 @@ unfolding split_at
 split-returns t c =
     let at = goal.at.split-returns t c in
     c.siblings.ensures
-    ∙ ap (λ (u : Searching Kept). search_words (siblings_at (bests c.args.samples.now c.args.p) c.args.samples.now c.args.octants.now c.args.p c.args.row c.args.spot u))
-    (ap search_in (first_turn t at.Joined-reaches (closest t at.After-reaches)) ∙ words_search _)
+    ∙ ap (λ (u : Searching Kept). search_as (siblings_at (bests c.args.samples.now c.args.p) c.args.samples.now c.args.octants.now c.args.p c.args.row c.args.spot u))
+    (ap search_in (first_turn t at.Joined-reaches (closest t at.After-reaches)))
 
--- The words say the search once the octant is entered.
-went_in : (t : ℕ) (c : visit-After-enter t) → search_in c.enter.new.search ≡ search_entering (search_in c.args.search.now)
-went_in t c = ap search_in c.enter.ensures ∙ words_search _
+-- What is lent once the octant is entered.
+went_in : (t : ℕ) (c : visit-After-enter t) → search_in c.enter.new.self ≡ search_entering (search_in c.args.search.now)
+went_in t c = ap search_in c.enter.ensures
 
-still : (t : ℕ) (c : visit-After-enter t) → Ready c.args.samples.now c.args.octants.now c.enter.new.search
+still : (t : ℕ) (c : visit-After-enter t) → SearchReady c.args.samples.now c.args.octants.now (search_in c.enter.new.self)
 still t c =
-    words_ready c.requires.ready _ c.enter.ensures
-    (entering_within (bests c.args.samples.now c.args.p) c.args.samples.now c.args.octants.now c.args.p _ c.requires.search_bound c.requires.ready.search.limits)
+    lent_ready c.requires.ready _ c.enter.ensures
+    (entering_within (bests c.args.samples.now c.args.p) c.args.samples.now c.args.octants.now c.args.p _ c.requires.search_bound c.requires.ready.limits)
 
 pub visit-ends-requires : goal.visit-ends-requires
 unfolding depths
-visit-ends-requires t c = (c.requires.ready.search.samples, (limit_rows _ _ c.requires.stood.1, c.requires.stood.0.within.depth))
+visit-ends-requires t c = (c.requires.ready.samples, (limit_rows _ _ c.requires.stood.1, c.requires.stood.0.within.depth))
 
 pub visit-own-requires-clause-ready : goal.visit-own-requires-clause-ready
 visit-own-requires-clause-ready t c = still t (goal.at.visit-own-requires-clause-ready t c).After-enter
@@ -209,7 +195,7 @@ visit-returns-then-ends t c =
     let ws = c.args.samples.now in
     let os = c.args.octants.now in
     c.own.ensures
-    ∙ ap search_words
+    ∙ ap search_as
     (ap (own_search (bests ws c.args.p) ws os c.args.row) (went_in t (goal.at.visit-returns-then-ends t c).After-enter)
     ∙ sym (search_own (bests ws c.args.p) ws os c.args.p c.args.row c.args.spot _ (sym c.ends.ensures ∙ c.if-ends.true)))
 
@@ -227,6 +213,6 @@ visit-returns t c =
     let ws = c.args.samples.now in
     let os = c.args.octants.now in
     c.split.ensures
-    ∙ ap search_words
+    ∙ ap search_as
     (ap (split_at (bests ws c.args.p) ws os c.args.p c.args.row c.args.spot) (went_in t (goal.at.visit-returns t c).After-enter)
     ∙ sym (search_split (bests ws c.args.p) ws os c.args.p c.args.row c.args.spot _ (sym c.ends.ensures ∙ c.if-ends.false)))

@@ -1,8 +1,6 @@
 -- In `visit::siblings` the siblings before `done` were taken or would change nothing, and the mask has the others. The measure of the recursion is three
 -- times the depth left, one more in `split` and two more in `visit`.
 use Prim.Native.Nat.{suc, ◌-◌, ◌*◌}
-use mathlib.Core.Path.{◌≡◌}
-use lib.ListN.{length}
 use Rattle.traversal.proofs.Laws.Search.Path.{Turning}
 use Rattle.near_path.specs.Best.{bests}
 use Rattle.near_path.specs.Steps.{search_in}
@@ -19,8 +17,7 @@ decreases-visit l = suc (suc (3 * (16 - l.spot.cube.depth)))
 
 abbrev pub invariant-siblings-loop-left : goal.invariant-siblings-loop-left
 invariant-siblings-loop-left l =
-    (length l.search ≡ 5)
-    × Turning (bests l.samples l.p) l.samples l.octants l.p l.row l.spot l.far (search_in l.initial.search).kept.distance (search_in l.initial.search) l.left
+    Turning (bests l.samples l.p) l.samples l.octants l.p l.row l.spot l.far (search_in l.initial.search).kept.distance (search_in l.initial.search) l.left
     (search_in l.search)
 
 abbrev pub decreases-siblings-loop-left : goal.decreases-siblings-loop-left

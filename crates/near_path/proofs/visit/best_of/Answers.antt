@@ -1,11 +1,18 @@
 -- `visit::best_of`: by whether the row is one of the table's.
-use Rattle.near_path.proofs.Laws.Words.{best_there, best_none}
+use native.Mathlib.Omega.{arith}
+use borrow.Author.Tests.{lt-ltb, le-ltb}
+use lib.ListN.{length}
+use Rattle.model.specs.Layout.{current, sample_rows}
+use Rattle.words.specs.Rows.{sample_in}
+use Rattle.near_path.specs.Best.{best_of}
 use Rattle.near_path.proofs.visit.best_of.Goals as goal
 
-pub returns-then-found-sample_rows : goal.returns-then-found-sample_rows
-returns-then-found-sample_rows c =
-    best_there _ _ c.distance-far.ensures c.row-found.ensures c.sample_rows.ensures.is c.if-found-sample_rows.true c.tag.ensures
+pub returns-then-row-sample_rows : goal.returns-then-row-sample_rows
+unfolding best_of sample_in
+returns-then-row-sample_rows c =
+    rw (c.tag.ensures, lt-ltb c.args.search.now.row (sample_rows current (length c.args.samples.now)) (omega arith), best_of)
 
 pub returns : goal.returns
+unfolding best_of
 returns c =
-    best_none _ _ c.distance-far.ensures c.row-found.ensures c.sample_rows.ensures.is c.if-found-sample_rows.false
+    rw (le-ltb c.args.search.now.row (sample_rows current (length c.args.samples.now)) (omega arith), best_of)

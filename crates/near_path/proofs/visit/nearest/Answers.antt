@@ -17,7 +17,7 @@ pub visit-requires : goal.visit-requires
 visit-requires c =
     let l = c.octant_limit in
     let squared = c.square.ensures in
-    let started = c.start-search.ensures in
+    let started = c.new-search.ensures in
     let ws = c.args.samples.now in
     let os = c.args.octants.now in
     let there : 0 < octant_limit current os = omega (arith, l.ensures, c.if-octant_limit-gt0.true) in
@@ -30,7 +30,7 @@ returns c =
     let ws = c.args.samples.now in
     let os = c.args.octants.now in
     let squared = c.square.ensures in
-    let started = c.start-search.ensures in
+    let started = c.new-search.ensures in
     let found : search_in c.if-octant_limit-gt0.search ≡ search_best ws os c.args.p c.args.radius =
     elim c.if-octant_limit-gt0.branch [
       | then-octant_limit-gt0 w ↦

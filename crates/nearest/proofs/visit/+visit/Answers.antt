@@ -11,7 +11,7 @@ use Rattle.nearest.specs.Steps.{Ready}
 use Rattle.nearest.proofs.Laws.Turns.{xor_below}
 use Rattle.nearest.proofs.Laws.Steps.Searching.{search_own, search_turns, entering_ready, turns_ready, deep, turn_off, turn_row, turn_on, turn_none, turn_more}
 use Rattle.nearest.proofs.visit.+visit.Goals as goal
-use Rattle.nearest.proofs.visit.+visit.Goals.{After-enter-search, Else-ends, After-side-half}
+use Rattle.nearest.proofs.visit.+visit.Goals.{After-enter-search, Else-ends, After-side-half, then-reaches, else-reaches}
 
 entered : (t : ℕ) (c : After-enter-search t) → Ready c.args.samples.now c.args.octants.now c.enter-search.result
 entered t c =
@@ -62,7 +62,7 @@ closest_child-first-requires t c =
     record { in_range = (c.requires.in_range, c.requires.within); depth_bound = deep_at t at.Else-ends; half_value = halved t at.After-side-half }
 
 pub loop-turn-init : goal.loop-turn-init
-loop-turn-init t c = (turn_none _ _, omega arith)
+loop-turn-init t c = turn_none _ _
 
 pub octant_child-next-requires : goal.octant_child-next-requires
 octant_child-next-requires t c =
@@ -79,33 +79,31 @@ child-requires t c =
 pub visit-search-requires : goal.visit-search-requires
 visit-search-requires t c =
     let at = goal.at.visit-search-requires t c in
-    let turning = subst (Ready c.args.samples.now c.args.octants.now) (sym c.loop-turn.invariant.0) (turns_ready _ _ _ _ _ _ _ _ (entered t at.After-enter-search)) in
+    let turning = subst (Ready c.args.samples.now c.args.octants.now) (sym c.loop-turn.invariant) (turns_ready _ _ _ _ _ _ _ _ (entered t at.After-enter-search)) in
     let w = turn_row c.args.samples.now _ _ _ c.args.cube _ (halved t at.After-side-half) _ c.loop-turn.search _ _ _ _ _ _ c.closest_child-first.ensures.is c.octant_limit-limit.ensures
     c.gaps_of-gaps.ensures.is c.octant_child-next.ensures refl c.reaches.ensures c.if-reaches.true in (
       omega (arith, c.decreases, deep_at t at.Else-ends, child_depth c.args.cube _ _ c.child.ensures.is),
       (c.requires.in_range, (c.child.ensures.within, (turning, w))),
     )
 
-pub loop-turn-preserved-then-reaches : goal.loop-turn-preserved-then-reaches
-loop-turn-preserved-then-reaches t c =
-    let at = goal.at.loop-turn-preserved-then-reaches t c in (
-      turn_more _ _ _ _ _ c.loop-turn.invariant.0 (turn_on _ _ _ _ c.args.cube _ (halved t at.After-side-half) _ _ _ _ _ _ _ _ c.closest_child-first.ensures.is c.octant_limit-limit.ensures
-          c.gaps_of-gaps.ensures.is c.octant_child-next.ensures refl c.reaches.ensures c.if-reaches.true _ c.child.ensures.is _ c.visit-search.ensures),
-      omega (arith, c.loop-turn-test.true),
-    )
-
 pub loop-turn-preserved : goal.loop-turn-preserved
 loop-turn-preserved t c =
-    let at = goal.at.loop-turn-preserved t c in (
-      turn_more _ _ _ _ _ c.loop-turn.invariant.0 (sym (turn_off _ _ _ _ c.args.cube _ (halved t at.After-side-half) _ _ _ _ _ _ _ _ c.closest_child-first.ensures.is c.octant_limit-limit.ensures
-          c.gaps_of-gaps.ensures.is c.octant_child-next.ensures refl c.reaches.ensures c.if-reaches.false)),
-      omega (arith, c.loop-turn-test.true),
+    let half = halved t (goal.at.loop-turn-preserved t c).After-side-half in
+    turn_more _ _ _ _ _ c.loop-turn.invariant (
+    elim c.if-reaches.branch [
+      | then-reaches w ↦
+          w.search-is ∙ turn_on _ _ _ _ c.args.cube _ half _ _ _ _ _ _ _ _ c.closest_child-first.ensures.is c.octant_limit-limit.ensures
+          c.gaps_of-gaps.ensures.is c.octant_child-next.ensures refl c.reaches.ensures w.if-reaches.true _ w.child.ensures.is _ w.visit-search.ensures
+      | else-reaches w ↦
+          w.search-is ∙ sym (turn_off _ _ _ _ c.args.cube _ half _ _ _ _ _ _ _ _ c.closest_child-first.ensures.is c.octant_limit-limit.ensures
+          c.gaps_of-gaps.ensures.is c.octant_child-next.ensures refl c.reaches.ensures w.if-reaches.false)
+    ]
     )
 
 pub returns : goal.returns
 unfolding children
 returns t c =
-    let eight : c.loop-turn.turn ≡ 8 = omega (arith, c.loop-turn.invariant.1, c.loop-turn-test.false) in
-    c.loop-turn.invariant.0
+    let eight : c.loop-turn.turn ≡ 8 = omega (arith, c.loop-turn.auto, c.loop-turn-test.false) in
+    c.loop-turn.invariant
     ∙ ap₂ (in_turn _) eight c.enter-search.ensures
     ∙ sym (search_turns _ _ _ _ _ _ _ (sym c.ends.ensures ∙ c.if-ends.false))

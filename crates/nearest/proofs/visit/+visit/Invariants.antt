@@ -1,5 +1,5 @@
 -- The search after some turns is the definition's. The measure of the recursion is the depth left.
-use Prim.Native.Nat.{◌-◌, ◌≤◌}
+use Prim.Native.Nat.{◌-◌}
 use mathlib.Core.Path.{◌≡◌}
 use Rattle.nearest.specs.Turns.{in_turn}
 use Rattle.nearest.proofs.Laws.Steps.Searching.{turn_at}
@@ -10,7 +10,4 @@ decreases-visit l = 16 - l.cube.depth
 
 abbrev pub invariant-loop-turn : goal.invariant-loop-turn
 invariant-loop-turn l =
-    (l.search ≡ in_turn (turn_at l.samples l.octants l.centre l.row l.cube.low (16 - l.cube.depth - 1)) l.turn l.initial.search) × (l.turn ≤ 8)
-
-abbrev pub decreases-loop-turn : goal.decreases-loop-turn
-decreases-loop-turn l = 8 - l.turn
+    l.search ≡ in_turn (turn_at l.samples l.octants l.centre l.row l.cube.low (16 - l.cube.depth - 1)) l.turn l.initial.search

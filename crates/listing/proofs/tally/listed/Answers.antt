@@ -1,9 +1,0 @@
--- `tally::listed`: one of the five words.
-use mathlib.Core.Path.{refl}
-use Rattle.listing.specs.Steps.{listed_in, tally_in}
-use Rattle.listing.proofs.tally.listed.Goals as goal
-
-pub returns : goal.returns
-unfolding listed_in tally_in
-returns c =
-    refl
