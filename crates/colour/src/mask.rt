@@ -21,7 +21,7 @@ pub fn without(mask: u32, k: u32) -> u32
 
 // A bit of that weight if a test holds, else 0.
 #[tactic(auto, unfolding(crate::specs::Mask::bit_if))]
-pub(crate) fn bit_if(test: bool, weight: u32) -> u32
+pub fn bit_if(test: bool, weight: u32) -> u32
     ensures is { result ≡ bit_if test weight }
     ensures bounded { result ≤ weight }
 {

@@ -39,7 +39,8 @@ fn measure(samples: &[u32], p: Probe, first: u32, count: u32) -> Run
     let mut best = u64::MAX;
     for row in rows_from(samples, first, count) {
         seen += 1;
-        best = best.min(rank(samples, p, row));
+        let found = rank(samples, p, row);
+        best = best.min(found);
     }
     Run { rank: best, seen }
 }

@@ -1,4 +1,5 @@
 -- What every traversal of the tables reads of an octant, on any words, and the search for what is closest.
+pub mod Squares
 pub mod Own
 pub mod Rows
 pub mod Children

@@ -2,7 +2,7 @@
 use Rattle.std.specs.Prelude.{ℕ, zero, suc, ◌+◌, ◌-◌, ◌*◌, ◌/◌, ◌%◌, ◌≤◌, Bool, true, false, ◌&&◌, leb, ltb}
 use Rattle.colour.specs.Channels.{Colour}
 use Rattle.colour.specs.declared.Probe.{Probe}
-use Rattle.traversal.specs.declared.nearby.Squares.{Squares}
+use Rattle.traversal.specs.Squares.{Squares}
 use Rattle.colour.specs.Colour.{Channel, code_in, sum_of}
 use Rattle.colour.specs.Octant.{bit_weight, children}
 use Rattle.colour.specs.Mask.{mask_of}

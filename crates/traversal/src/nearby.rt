@@ -1,21 +1,16 @@
 // How far the children of an octant are from a probe, channel by channel. A probe lies in, or is closest to, one half of each channel: that half is as
 // far as the whole octant, and the other, the far half, lies across the middle. So the eight children share six squares, and three are the octant's own.
 ghost use Rattle.std.specs.Prelude.{suc, ◌+◌, ◌<◌, ◌≤◌, ◌≡◌, leb};
-ghost use Rattle.colour.specs.Probe.{Fine};
-ghost use Rattle.colour.specs.Octant.{side_at, Within};
 ghost use Rattle.colour.specs.Mask.{bit_if};
 ghost use Rattle.traversal.specs.Nearby.{sum_by, far_square, far_of, by_bit, turned_by, turn_mask, NearFar, SmallSquares};
 
 use colour::distance::square;
-use colour::{Cube, Probe};
+use colour::mask::bit_if;
+use colour::octant::Parent;
+use colour::{Channels, Probe};
 
 // What each channel adds to a d².
-#[derive(Clone, Copy)]
-pub struct Squares {
-    pub red: u64,
-    pub green: u64,
-    pub blue: u64,
-}
+pub type Squares = Channels<u64>;
 
 // Their sum.
 pub fn sum_by(v: Squares) -> u64
@@ -26,10 +21,11 @@ pub fn sum_by(v: Squares) -> u64
 }
 
 // The square of how far a code is from the far half.
-fn far_square(x: u32, middle: u32) -> u64
-    requires { (x ≤ 65535) × (middle ≤ 65536) }
+fn far_square(x: u16, middle: u32) -> u64
+    requires { middle ≤ 65536 }
     ensures { result ≡ far_square x middle }
 {
+    let x = u32::from(x);
     if middle <= x {
         square(x - middle + 1)
     } else {
@@ -37,18 +33,17 @@ fn far_square(x: u32, middle: u32) -> u64
     }
 }
 
-// What the far halves of an octant of side over 1 add. The caller looks up the children's side.
-pub fn far_of(p: Probe, cube: Cube, half: u32) -> Squares
-    requires fine { (Fine p) × (Within cube) }
-    requires depth_bound { cube.depth < 16 }
-    requires half_value { half ≡ side_at (suc cube.depth) }
-    ensures { result ≡ far_of p half cube.low }
+// What the far halves of a split octant add.
+#[tactic(auto, using(colour::proofs::Laws::Cubes::parent_room), unfolding(crate::specs::Nearby::far_of, crate::specs::Nearby::squares_by, colour::specs::Colour::code_in))]
+pub fn far_of(p: Probe, parent: Parent) -> Squares
+    ensures { result ≡ far_of p parent.half parent.cube.low }
 {
-    let low = cube.low;
+    let low = parent.cube.low;
+    let half = parent.half;
     Squares {
-        red: far_square(p.centre.red, low.red + half),
-        green: far_square(p.centre.green, low.green + half),
-        blue: far_square(p.centre.blue, low.blue + half),
+        red: far_square(p.centre.red, u32::from(low.red) + half),
+        green: far_square(p.centre.green, u32::from(low.green) + half),
+        blue: far_square(p.centre.blue, u32::from(low.blue) + half),
     }
 }
 
@@ -76,11 +71,7 @@ fn within(red: u64, green: u64, blue: u64, most: u64, weight: u32) -> u32
     ensures is { result ≡ bit_if (leb (red + green + blue) most) weight }
     ensures bounded { result ≤ weight }
 {
-    if red + green + blue <= most {
-        weight
-    } else {
-        0
-    }
+    bit_if(red + green + blue <= most, weight)
 }
 
 // The turns past the first whose children are no farther than the most, each a bit. Nothing branches.

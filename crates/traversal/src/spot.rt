@@ -1,14 +1,13 @@
 // Where a search by path stands, and its ways on. What an octant's channels add to its closest d² is handed down: the closest child adds as much, and
 // each of its siblings adds what the far halves do in some channels.
 ghost use Rattle.std.specs.Prelude.{◌<◌, ◌≡◌};
-ghost use Rattle.colour.specs.Probe.{Fine};
 ghost use Rattle.colour.specs.Octant.{root_cube, Within};
 ghost use Rattle.traversal.specs.Nearby.{far_of};
 ghost use Rattle.traversal.specs.Spot.{spot_at, fork_of, turn_spot, Forked};
 
 use crate::nearby::{Squares, turned};
 use colour::nearby::closest_child;
-use colour::octant::{child, root};
+use colour::octant::{Parent, child, root};
 use colour::{Cube, Probe};
 
 // An octant's cube, and what each of its channels adds to its closest d². (Its row goes beside it: in here it would be copied more often.)
@@ -27,7 +26,6 @@ pub struct Fork {
 
 // The root, which holds every probe.
 pub fn root_spot(p: Probe) -> Spot
-    requires { Fine p }
     ensures { result ≡ spot_at p root_cube }
 {
     Spot {
@@ -42,14 +40,26 @@ pub fn root_spot(p: Probe) -> Spot
 
 // At an octant of side over 1: its children's side, and the closest child. The side is halved: no table is read.
 pub fn fork_of(p: Probe, cube: Cube) -> Fork
-    requires fine { (Fine p) × (Within cube) }
+    requires within { Within cube }
     requires depth_bound { cube.depth < 16 }
     ensures { result ≡ fork_of p cube }
 {
     let half = cube.side / 2;
     Fork {
         half,
-        first: closest_child(p.centre, cube, half),
+        first: closest_child(p.centre, Parent { cube, half }),
+    }
+}
+
+// The octant, with its children's side.
+pub fn parent_at(p: Probe, spot: Spot, fork: Fork) -> Parent
+    requires { Forked p spot fork }
+    ensures cube { result.cube ≡ spot.cube }
+    ensures half { result.half ≡ fork.half }
+{
+    Parent {
+        cube: spot.cube,
+        half: fork.half,
     }
 }
 
@@ -60,7 +70,7 @@ pub fn closest_spot(p: Probe, spot: Spot, fork: Fork) -> Spot
 {
     let near = spot.near;
     Spot {
-        cube: child(spot.cube, fork.half, fork.first),
+        cube: child(parent_at(p, spot, fork), fork.first),
         near,
     }
 }
@@ -73,7 +83,7 @@ pub fn sibling_spot(p: Probe, spot: Spot, fork: Fork, far: Squares, m: u32) -> S
 {
     let k = fork.first ^ m;
     Spot {
-        cube: child(spot.cube, fork.half, k),
+        cube: child(parent_at(p, spot, fork), k),
         near: turned(spot.near, far, m),
     }
 }

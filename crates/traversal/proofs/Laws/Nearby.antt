@@ -10,7 +10,7 @@ use lib.Bits.{bit_xor, differ}
 use lib.Dec.{leb}
 use Rattle.colour.specs.Channels.{Colour}
 use Rattle.colour.specs.declared.Probe.{Probe}
-use Rattle.traversal.specs.declared.nearby.Squares.{Squares}
+use Rattle.traversal.specs.Squares.{Squares}
 use Rattle.colour.specs.Colour.{Channel, Red, Green, Blue, code_in, colour_by, sum_of, black, apart, distance}
 use Rattle.colour.specs.Probe.{Fine}
 use Rattle.colour.specs.Octant.{bit_weight, last_code, children, child_low, depths, side_at, root_cube}

@@ -12,8 +12,8 @@ loop-row-init c = measuring_begins _ _ _ _ (ap rows_left c.into_iter-row-iterato
 pub overflow_add-seen : goal.overflow_add-seen
 overflow_add-seen c = omega (arith, more _ _ _ _ c.loop-row.invariant c.in-Some.ensures.steps)
 
-pub rank-requires : goal.rank-requires
-rank-requires c = (
+pub rank-found-requires : goal.rank-found-requires
+rank-found-requires c = (
   c.requires,
   given_row c.args.samples.now c.args.count c.args.first c.into_iter-row-iterator.result
       (ap rows_left c.into_iter-row-iterator.ensures.into_iter_gives ∙ c.rows_from-row-items.ensures)
@@ -21,7 +21,7 @@ rank-requires c = (
 )
 
 pub loop-row-preserved : goal.loop-row-preserved
-loop-row-preserved c = one_more _ _ _ _ c.loop-row.invariant c.in-Some.ensures.steps c.rank.ensures c.min-best.ensures
+loop-row-preserved c = one_more _ _ _ _ c.loop-row.invariant c.in-Some.ensures.steps c.rank-found.ensures (omega arith)
 
 pub returns : goal.returns
 returns c = measuring_ends _ _ _ _ c.loop-row.invariant c.in-None.ensures.steps.0

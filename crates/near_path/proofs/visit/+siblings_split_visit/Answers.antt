@@ -8,7 +8,7 @@ use lib.Pow.{pow_pos}
 use Rattle.colour.specs.declared.Probe.{Probe}
 use Rattle.colour.specs.Octant.{depths}
 use Rattle.colour.proofs.Laws.Mask.{First}
-use Rattle.traversal.specs.declared.nearby.Squares.{Squares}
+use Rattle.traversal.specs.Squares.{Squares}
 use Rattle.traversal.specs.declared.spot.Spot.{Spot}
 use Rattle.traversal.specs.declared.spot.Fork.{Fork}
 use Rattle.traversal.specs.Nearby.{turn_within, far_of, SmallSquares}

@@ -10,7 +10,7 @@ use native.Mathlib.Omega.{arith}
 use borrow.Author.Tests.{le-leb}
 use lib.Count.{count_trailing_zeros}
 use Rattle.colour.specs.declared.Probe.{Probe}
-use Rattle.traversal.specs.declared.nearby.Squares.{Squares}
+use Rattle.traversal.specs.Squares.{Squares}
 use Rattle.colour.specs.Octant.{children}
 use Rattle.colour.specs.Mask.{mask_of}
 use Rattle.traversal.specs.Nearby.{far_of, sum_by, turn_within, turn_mask}

@@ -10,7 +10,7 @@ use lib.Bits.{bit_xor, xor_zero_r}
 use Rattle.colour.specs.Channels.{Colour}
 use Rattle.colour.specs.declared.Cube.{Cube}
 use Rattle.colour.specs.declared.Probe.{Probe}
-use Rattle.traversal.specs.declared.nearby.Squares.{Squares}
+use Rattle.traversal.specs.Squares.{Squares}
 use Rattle.colour.specs.Colour.{Channel, code_in, distance}
 use Rattle.colour.specs.Probe.{Fine}
 use Rattle.colour.specs.Octant.{depths, children, side_at, child_low, child_cube, root_cube}

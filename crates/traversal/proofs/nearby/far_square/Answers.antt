@@ -8,9 +8,9 @@ use Rattle.traversal.proofs.nearby.far_square.Goals as goal
 pub returns-then-middle-x : goal.returns-then-middle-x
 unfolding far_square
 returns-then-middle-x c =
-    c.square.ensures ∙ sym (ap (λ (n : ℕ). n * n) (far_yes _ _ c.if-middle-x.true))
+    rw (← c.from-x.ensures) (c.square.ensures ∙ sym (ap (λ (n : ℕ). n * n) (far_yes _ _ c.if-middle-x.true)))
 
 pub returns-else-middle-x : goal.returns-else-middle-x
 unfolding far_square
 returns-else-middle-x c =
-    c.square-else-middle-x.ensures ∙ sym (ap (λ (n : ℕ). n * n) (far_no _ _ c.if-middle-x.false))
+    rw (← c.from-x.ensures) (c.square-else-middle-x.ensures ∙ sym (ap (λ (n : ℕ). n * n) (far_no _ _ c.if-middle-x.false)))
