@@ -1,5 +1,5 @@
-// The numbers of a script, each once. Words and floats that a call does not use may be any. The kinds of calls stand in `script::call_in` alone, the words of an answer in
-// `replay::put_given`.
+// The numbers of a script, each once. Words and floats that a call does not use may be any. Which word says which call stands in
+// `script::Kind` alone, and the words of an answer in `replay::words_of`.
 
 // How many words and how many floats a step has: which call it is, eight words of arguments, and a length. A tag has two words.
 pub const STEP: usize = 10;
