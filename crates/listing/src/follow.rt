@@ -1,6 +1,5 @@
 // The samples of an octant, by their next words. Nothing is trusted: a code is brought into range.
 ghost use Rattle.std.specs.Prelude.{◌+◌, ◌≤◌, ◌<◌, ◌≡◌, length, set};
-ghost use Rattle.colour.specs.Region.{Fair};
 ghost use Rattle.model.specs.Layout.{current, sample_rows};
 ghost use Rattle.listing.specs.Pass.{takes};
 ghost use Rattle.listing.specs.Steps.{Followed};
@@ -19,7 +18,7 @@ pub struct Run {
 
 // Whether the sample in a row is listed: each is where its octant is taken whole; else it is measured.
 fn takes(samples: &[u32], region: Region, whole: bool, row: usize) -> bool
-    requires { (Fair region) × (row < sample_rows current (length samples.now)) }
+    requires { row < sample_rows current (length samples.now) }
     ensures { result ≡ takes samples.now region whole row }
 {
     if whole {
@@ -48,7 +47,7 @@ pub fn follow(
     listing: &mut [u32],
     start: u32,
 ) -> Run
-    requires { (Fair region) × (start + count ≤ 8192) }
+    requires { start + count ≤ 8192 }
     ensures { Followed samples.now region whole first count start listing.old result listing.new }
 {
     let mut seen: u32 = 0;

@@ -1,6 +1,5 @@
 // Ball and box over codes: the tags of the samples in a region, with what was entered and measured.
 ghost use Rattle.std.specs.Prelude.{◌≤◌, ◌≡◌, length, Ok};
-ghost use Rattle.colour.specs.Region.{Fair};
 ghost use Rattle.model.specs.Layout.{current, sample_header, octant_header};
 ghost use Rattle.listing.specs.Pass.{pass_of};
 ghost use Rattle.listing.specs.Answers.{listed_answer, pass_answer};
@@ -21,8 +20,7 @@ pub struct Counts {
 
 // How many a pass lists. It writes on a word of its own, and so only counts.
 fn how_many(samples: &[u32], octants: &[u32], region: Region) -> usize
-    requires { (Fair region)
-        × ((sample_header current ≤ length samples.now) × (octant_header current ≤ length octants.now)) }
+    requires { (sample_header current ≤ length samples.now) × (octant_header current ≤ length octants.now) }
     ensures { result ≡ length (pass_of samples.now octants.now region).tags }
 {
     let mut tally = Tally::new();
@@ -33,8 +31,7 @@ fn how_many(samples: &[u32], octants: &[u32], region: Region) -> usize
 
 // A pass that writes.
 fn write(samples: &[u32], octants: &[u32], region: Region, listing: &mut [u32]) -> Counts
-    requires fair { (Fair region)
-        × ((sample_header current ≤ length samples.now) × (octant_header current ≤ length octants.now)) }
+    requires headed { (sample_header current ≤ length samples.now) × (octant_header current ≤ length octants.now) }
     requires room { length (pass_of samples.now octants.now region).tags ≤ length listing.old }
     ensures { listed_answer (Ok result) listing.new
         ≡ pass_answer (pass_of samples.now octants.now region) listing.old }
@@ -56,8 +53,7 @@ pub fn list(
     region: Region,
     listing: &mut [u32],
 ) -> Result<Counts, Refusal>
-    requires { (Fair region)
-        × ((sample_header current ≤ length samples.now) × (octant_header current ≤ length octants.now)) }
+    requires { (sample_header current ≤ length samples.now) × (octant_header current ≤ length octants.now) }
     ensures { listed_answer result listing.new
         ≡ pass_answer (pass_of samples.now octants.now region) listing.old }
 {

@@ -2,7 +2,6 @@
 // counted and not written.
 ghost use Rattle.std.specs.Prelude.{◌-◌, ◌<◌, ◌≤◌, ◌≡◌, length};
 ghost use Rattle.colour.specs.Octant.{Within};
-ghost use Rattle.colour.specs.Region.{Fair};
 ghost use Rattle.model.specs.Layout.{current, sample_header, octant_header};
 ghost use Rattle.words.specs.Rows.{octant_limit, sample_budget};
 ghost use Rattle.listing.specs.Pass.{no_tally, own_samples, visit_of, pass_of};
@@ -11,7 +10,7 @@ ghost use Rattle.listing.specs.Steps.{tally_of, tally_in, TallyWithin, Counting,
 use crate::follow::follow;
 use crate::tally::Tally;
 use colour::mask::{first, without};
-use colour::octant::{child, root, side};
+use colour::octant::{child, parent_of, root};
 use colour::overlap::{inside, overlapping, overlaps};
 use colour::{Cube, Region};
 use traversal::octant::{ends, most};
@@ -27,7 +26,6 @@ fn own_samples(
     listing: &mut [u32],
     tally: &mut Tally,
 )
-    requires fair { Fair region }
     requires counting { Counting samples.now octants.now tally.old }
     requires row_bound { row < octant_limit current octants.now }
     ensures { Visited
@@ -57,7 +55,6 @@ fn visit(
     listing: &mut [u32],
     tally: &mut Tally,
 )
-    requires fair { Fair region }
     requires within { Within cube }
     requires counting { Counting samples.now octants.now tally.old }
     requires next_bound { (tally.old.next ≤ row) × (row < octant_limit current octants.now) }
@@ -67,14 +64,13 @@ fn visit(
 {
     tally.enter(row);
     let whole = inside(region, cube);
-    let depth = cube.depth;
-    if ends(samples, octants, whole, depth, row) {
+    if ends(samples, octants, whole, cube.depth, row) {
         own_samples(samples, octants, region, whole, row, listing, tally);
         return;
     }
     let limit = octant_limit(octants);
-    let half = side(depth + 1);
-    let mut left = overlapping(region, cube, half);
+    let parent = parent_of(cube);
+    let mut left = overlapping(region, parent);
     while left != 0 {
         let k = first(left);
         left = without(left, k);
@@ -85,7 +81,7 @@ fn visit(
                 octants,
                 region,
                 next,
-                child(cube, half, k),
+                child(parent, k),
                 listing,
                 tally,
             );
@@ -101,7 +97,6 @@ pub fn pass(
     listing: &mut [u32],
     tally: &mut Tally,
 )
-    requires fair { Fair region }
     requires headed { (sample_header current ≤ length samples.now) × (octant_header current ≤ length octants.now) }
     requires blank { tally.old ≡ tally_of 0 no_tally }
     ensures visited { Visited

@@ -1,6 +1,5 @@
 // The samples of an octant, measured by their next words. Nothing is trusted: a code is brought into range.
 ghost use Rattle.std.specs.Prelude.{◌<◌, ◌≡◌, length};
-ghost use Rattle.colour.specs.Probe.{Fine};
 ghost use Rattle.model.specs.Layout.{current, sample_rows};
 ghost use Rattle.words.specs.Rows.{octant_limit};
 ghost use Rattle.traversal.specs.Search.{own_search};
@@ -24,7 +23,7 @@ pub struct Run {
 
 // The rank of the sample in a row.
 fn rank(samples: &[u32], p: Probe, row: usize) -> u64
-    requires { (Fine p) × (row < sample_rows current (length samples.now)) }
+    requires { row < sample_rows current (length samples.now) }
     ensures { result ≡ rank_of samples.now p row }
 {
     squared(p.centre, wrapped(colour_of(samples, row))) * 4096 + (row as u64)
@@ -32,7 +31,6 @@ fn rank(samples: &[u32], p: Probe, row: usize) -> u64
 
 // Goes through count samples at most, from row first on. The least rank needs no branch.
 fn measure(samples: &[u32], p: Probe, first: u32, count: u32) -> Run
-    requires { Fine p }
     ensures { Measured samples.now p first count result }
 {
     let mut seen: u32 = 0;
@@ -47,7 +45,6 @@ fn measure(samples: &[u32], p: Probe, first: u32, count: u32) -> Run
 
 // An entered octant's own samples.
 pub fn own(samples: &[u32], octants: &[u32], p: Probe, octant: u32, search: &mut Search)
-    requires fine { Fine p }
     requires ready { SearchReady samples.now octants.now (search_in search.old) }
     requires octant_bound { octant < octant_limit current octants.now }
     ensures { search.new

@@ -1,7 +1,6 @@
 // The search: it recurses through octants, the depth left falling, and takes the closest child first. Its siblings are looked at once it is done: most are
 // then too far.
 ghost use Rattle.std.specs.Prelude.{◌≤◌, ◌<◌, ◌≡◌, length};
-ghost use Rattle.colour.specs.Probe.{Fine};
 ghost use Rattle.model.specs.Layout.{current, sample_header, octant_header};
 ghost use Rattle.words.specs.Rows.{octant_limit};
 ghost use Rattle.traversal.specs.Steps.{SearchReady};
@@ -16,7 +15,7 @@ use colour::distance::square;
 use colour::mask::{first as first_of, without};
 use traversal::nearby::{far_of, sum_by, turns};
 use traversal::octant::{child_at, ends};
-use traversal::spot::{Fork, Spot, closest_spot, fork_of, root_spot, sibling_spot};
+use traversal::spot::{Fork, Spot, closest_spot, fork_of, parent_at, root_spot, sibling_spot};
 use words::layout::{octant_limit, sample_rows, tag as tag_of};
 
 // The siblings of the closest child, in turn: those that are still close enough.
@@ -36,7 +35,7 @@ fn siblings(
         ≡ search_after (siblings_at (bests samples.now p) samples.now octants.now p row spot)
         search.old }
 {
-    let far = far_of(p, spot.cube, fork.half);
+    let far = far_of(p, parent_at(p, spot, fork));
     let limit = octant_limit(octants);
     let mut left = turns(search.distance, spot.near, far);
     while left != 0 {
@@ -108,7 +107,6 @@ fn best_of(samples: &[u32], search: &Search) -> Best
 
 // Nearest over codes: the root is entered if it is there.
 pub fn nearest(samples: &[u32], octants: &[u32], p: Probe, radius: u32) -> Best
-    requires fine { Fine p }
     requires headed { (sample_header current ≤ length samples.now) × (octant_header current ≤ length octants.now) }
     ensures { result ≡ best_found samples.now octants.now p radius }
 {

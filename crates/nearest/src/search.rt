@@ -1,6 +1,5 @@
 // The samples of an octant, measured by their next words. Nothing is trusted: a code is brought into range.
 ghost use Rattle.std.specs.Prelude.{◌<◌, ◌≡◌, length};
-ghost use Rattle.colour.specs.Colour.{InRange};
 ghost use Rattle.model.specs.Layout.{current, sample_rows};
 ghost use Rattle.words.specs.Rows.{octant_limit};
 ghost use Rattle.nearest.specs.Search.{measure_row, own_search};
@@ -8,7 +7,7 @@ ghost use Rattle.nearest.specs.Steps.{Measured, Ready};
 
 use crate::best::{Best, taken};
 use colour::distance::squared;
-use colour::{Colour, wrapped};
+use colour::{Codes, wrapped};
 use traversal::octant::most;
 use traversal::rows::rows_from;
 use words::layout::{colour as colour_of, octant_first, tag as tag_of};
@@ -29,8 +28,8 @@ pub struct Run {
 }
 
 // The best, once the sample in a row is measured.
-fn measure_row(samples: &[u32], centre: Colour, octant: u32, best: Best, row: usize) -> Best
-    requires { (InRange centre) × (row < sample_rows current (length samples.now)) }
+fn measure_row(samples: &[u32], centre: Codes, octant: u32, best: Best, row: usize) -> Best
+    requires { row < sample_rows current (length samples.now) }
     ensures { result ≡ measure_row samples.now centre octant best row }
 {
     let distance = squared(centre, wrapped(colour_of(samples, row)));
@@ -38,8 +37,7 @@ fn measure_row(samples: &[u32], centre: Colour, octant: u32, best: Best, row: us
 }
 
 // Goes through count samples at most, from row first on.
-fn measure(samples: &[u32], centre: Colour, octant: u32, first: u32, count: u32, start: Best) -> Run
-    requires { InRange centre }
+fn measure(samples: &[u32], centre: Codes, octant: u32, first: u32, count: u32, start: Best) -> Run
     ensures { Measured samples.now centre octant first count start result }
 {
     let mut seen: u32 = 0;
@@ -52,8 +50,7 @@ fn measure(samples: &[u32], centre: Colour, octant: u32, first: u32, count: u32,
 }
 
 // An entered octant's own samples.
-pub fn own(samples: &[u32], octants: &[u32], centre: Colour, row: u32, search: Search) -> Search
-    requires in_range { InRange centre }
+pub fn own(samples: &[u32], octants: &[u32], centre: Codes, row: u32, search: Search) -> Search
     requires ready { Ready samples.now octants.now search }
     requires row_bound { row < octant_limit current octants.now }
     ensures { result ≡ own_search samples.now octants.now centre row search }

@@ -1,8 +1,7 @@
 // The search: it recurses through octants, the depth left falling, and takes the closest child first.
 ghost use Rattle.std.specs.Prelude.{◌-◌, ◌≤◌, ◌<◌, ◌&&◌, ◌≡◌, ltb, length};
-ghost use Rattle.colour.specs.Colour.{InRange};
 ghost use Rattle.colour.specs.Octant.{Within};
-ghost use Rattle.colour.specs.Nearby.{closest_by, SmallGaps};
+ghost use Rattle.colour.specs.Nearby.{closest_by};
 ghost use Rattle.model.specs.Layout.{current, sample_header, octant_header};
 ghost use Rattle.words.specs.Rows.{octant_limit};
 ghost use Rattle.nearest.specs.Best.{closer};
@@ -12,9 +11,10 @@ ghost use Rattle.nearest.specs.Steps.{Ready};
 use crate::best::{Best, closer};
 use crate::search::{Search, own};
 use colour::distance::square;
-use colour::nearby::{Gaps, closest_by, closest_child, gaps_of};
-use colour::octant::{child, root, side};
-use colour::{Colour, Cube};
+use colour::nearby::{closest_by, closest_child, gaps_of};
+use colour::octant::{child, parent_of, root};
+use colour::overlap::Halves;
+use colour::{Channels, Codes, Cube};
 use traversal::octant::ends;
 use words::layout::{octant_child, octant_limit};
 
@@ -36,8 +36,7 @@ fn enter(search: Search) -> Search
 
 // Whether child k, in a row, is entered: it is there, another octant may be entered, and it can hold something that comes before the best. How far it is
 // is worked out last: most octants have few children.
-fn reaches(search: Search, row: u32, limit: u32, gaps: Gaps, k: u32) -> bool
-    requires { SmallGaps gaps }
+fn reaches(search: Search, row: u32, limit: u32, gaps: Channels<Halves>, k: u32) -> bool
     ensures { result
         ≡ ((ltb 0 row && ltb row limit) && (ltb search.entered limit && closer search.best (closest_by gaps k) row)) }
 {
@@ -53,12 +52,11 @@ fn reaches(search: Search, row: u32, limit: u32, gaps: Gaps, k: u32) -> bool
 fn visit(
     samples: &[u32],
     octants: &[u32],
-    centre: Colour,
+    centre: Codes,
     row: u32,
     cube: Cube,
     from: Search,
 ) -> Search
-    requires in_range { InRange centre }
     requires within { Within cube }
     requires ready { Ready samples.now octants.now from }
     requires row_bound { (row < octant_limit current octants.now) × (from.entered < octant_limit current octants.now) }
@@ -69,14 +67,14 @@ fn visit(
         return own(samples, octants, centre, row, search);
     }
     let limit = octant_limit(octants);
-    let half = side(cube.depth + 1);
-    let gaps = gaps_of(centre, cube, half);
-    let first = closest_child(centre, cube, half);
+    let parent = parent_of(cube);
+    let gaps = gaps_of(centre, parent);
+    let first = closest_child(centre, parent);
     for turn in 0..CHILDREN {
         let k = first ^ turn;
         let next = octant_child(octants, row, k);
         if reaches(search, next, limit, gaps, k) {
-            search = visit(samples, octants, centre, next, child(cube, half, k), search);
+            search = visit(samples, octants, centre, next, child(parent, k), search);
         }
     }
     search
@@ -98,8 +96,7 @@ fn start(radius: u32) -> Search
 }
 
 // Nearest over codes: the root is entered where it is there.
-pub fn nearest(samples: &[u32], octants: &[u32], centre: Colour, radius: u32) -> Best
-    requires in_range { InRange centre }
+pub fn nearest(samples: &[u32], octants: &[u32], centre: Codes, radius: u32) -> Best
     requires headed { (sample_header current ≤ length samples.now) × (octant_header current ≤ length octants.now) }
     ensures { result ≡ (search_all samples.now octants.now centre radius).best }
 {

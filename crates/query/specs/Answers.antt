@@ -1,6 +1,6 @@
 -- What a query answers (document 01, "Picks" and "Questions"): the paper's number and values for each case of the enum, and the answer on any words at
 -- all, by the pass or the search over them.
-use Rattle.std.specs.Prelude.{ℕ, ◌*◌, ◌≤◌, Bool, true, false, not, List, ◌∷◌, ◌≡◌, length}
+use Rattle.std.specs.Prelude.{Some, None, Result, Ok, Err, ℕ, ◌*◌, ◌≤◌, Bool, true, false, not, List, ◌∷◌, ◌≡◌, length}
 use Rattle.colour.specs.Channels.{Colour}
 use Rattle.colour.specs.declared.Query.{Query}
 use Rattle.colour.specs.declared.Region.{Region}
@@ -8,6 +8,7 @@ use Rattle.colour.specs.declared.panel.Wanted.{Wanted}
 use Rattle.colour.specs.declared.panel.Wanted.TheVariants as W
 use Rattle.colour.specs.Query.{query_questions, in_codes}
 use Rattle.colour.specs.Question.{asks}
+use Rattle.colour.specs.declared.refusal.Refusal.{Refusal}
 use Rattle.colour.specs.Refusal.{refusal_number}
 use Rattle.model.specs.Layout.{current}
 use Rattle.model.specs.Tables.{Tables}
@@ -19,39 +20,22 @@ use Rattle.listing.specs.Pass.{pass_of}
 use Rattle.listing.specs.Answers.{pass_answer}
 use Rattle.nearest.specs.Best.{best_answer}
 use Rattle.nearest.specs.Search.{search_all}
-use Rattle.query.specs.declared.answers.Report.{Report}
 use Rattle.query.specs.declared.answers.Reply.{Reply}
 use Rattle.query.specs.declared.answers.Reply.TheVariants as R
 
 -- The paper's number and values for each case, with the listing as it is left.
-unfoldable pub reply_answer : Reply → List ℕ → Answer
-reply_answer (R.Listed listed entered measured) left = list_answer 0 listed (record { entered = entered; measured = measured }) left
-reply_answer (R.Found tag distance) left = nearest_answer 0 true tag distance left
-reply_answer R.Nothing left = nearest_answer 0 false 0 0 left
-reply_answer (R.Refused r) left = plain (refusal_number r) left
+unfoldable pub reply_answer : Result Reply Refusal → List ℕ → Answer
+reply_answer (Ok (R.Listed c)) left = list_answer 0 c.listed (record { entered = c.entered; measured = c.measured }) left
+reply_answer (Ok (R.Nearest (Some near))) left = nearest_answer 0 true near.tag near.distance left
+reply_answer (Ok (R.Nearest None)) left = nearest_answer 0 false 0 0 left
+reply_answer (Err r) left = plain (refusal_number r) left
 
 -- Whether a reply is one of a query that lists, or else of a nearest query: what is listed is told apart from what is found, and from none found.
 -- Both refuse. (A nearest query's number is never 13, by `meets` of `AskMeets`.)
-unfoldable pub of_kind : Bool → Reply → Bool
-of_kind lists (R.Listed listed entered measured) = lists
-of_kind lists (R.Found tag distance) = not lists
-of_kind lists R.Nothing = not lists
-of_kind lists (R.Refused r) = true
-
--- The answer that a report says, with a listing as it is left.
-unfoldable pub report_answer : Report → List ℕ → Answer
-report_answer r left =
-    record {
-      number = r.number;
-      taken = 0;
-      listed = r.listed;
-      entered = r.entered;
-      measured = r.measured;
-      found = r.found;
-      tag = r.tag;
-      distance = r.distance;
-      listing = left;
-    }
+unfoldable pub of_kind : Bool → Result Reply Refusal → Bool
+of_kind lists (Ok (R.Listed c)) = lists
+of_kind lists (Ok (R.Nearest found)) = not lists
+of_kind lists (Err r) = true
 
 -- The answer, on any words, of a query that wants this: by the pass, with question 13, or by the search.
 unfoldable pub raw_wanted : Tables → Wanted → List ℕ → Answer

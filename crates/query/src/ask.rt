@@ -6,7 +6,7 @@ ghost use Rattle.query.specs.Answers.{reply_answer, of_kind, Bounds, AskMeets};
 
 use crate::answers::{Reply, of_best, of_listed};
 use colour::distance::square;
-use colour::panel::{Asked, Wanted, asked_of};
+use colour::panel::Wanted;
 use colour::refusal::Refusal;
 use colour::{PanelColour, Query};
 use listing::list::list;
@@ -14,23 +14,26 @@ use nearest::visit::nearest as nearest_code;
 use words::layout::long_enough;
 
 // The query entry: an exported call. Questions 1 and 9, and then the listing or the search. A nearest query leaves the listing as it is.
-pub fn ask(samples: &[u32], octants: &[u32], query: Query, listing: &mut [u32]) -> Reply
+pub fn ask(
+    samples: &[u32],
+    octants: &[u32],
+    query: Query,
+    listing: &mut [u32],
+) -> Result<Reply, Refusal>
     ensures meets { AskMeets query listing.old (tables_read samples octants) (reply_answer result listing.new) }
     ensures bounds { Bounds listing.old (tables_read samples octants) (reply_answer result listing.new) }
     ensures kind { of_kind (lists query) result ≡ true }
 {
     if !long_enough(samples.len(), octants.len()) {
-        return Reply::Refused(Refusal::TooShort);
+        return Err(Refusal::TooShort);
     }
-    match asked_of(query) {
-        Asked::For(wanted) => match wanted {
-            Wanted::Listed(region) => of_listed(list(samples, octants, region, listing)),
-            Wanted::Nearest(centre, radius) => of_best(
-                nearest_code(samples, octants, centre, radius),
-                square(radius),
-            ),
-        },
-        Asked::Refused(refusal) => Reply::Refused(refusal),
+    let wanted = Wanted::try_from(query)?;
+    match wanted {
+        Wanted::Listed(region) => of_listed(list(samples, octants, region, listing)),
+        Wanted::Nearest(centre, radius) => {
+            let best = nearest_code(samples, octants, centre, radius);
+            Ok(of_best(best, square(radius)))
+        }
     }
 }
 
@@ -41,7 +44,7 @@ pub fn ball(
     centre: PanelColour,
     radius: f32,
     listing: &mut [u32],
-) -> Reply
+) -> Result<Reply, Refusal>
     ensures meets { AskMeets
         (Query.Ball centre radius) listing.old (tables_read samples octants) (reply_answer result listing.new) }
     ensures bounds { Bounds listing.old (tables_read samples octants) (reply_answer result listing.new) }
@@ -57,7 +60,7 @@ pub fn boxed(
     low: PanelColour,
     high: PanelColour,
     listing: &mut [u32],
-) -> Reply
+) -> Result<Reply, Refusal>
     ensures meets { AskMeets
         (Query.Box low high) listing.old (tables_read samples octants) (reply_answer result listing.new) }
     ensures bounds { Bounds listing.old (tables_read samples octants) (reply_answer result listing.new) }
@@ -67,7 +70,12 @@ pub fn boxed(
 }
 
 // Nearest: an exported call. It uses no listing, so it promises its answer with any; the word that it lends the entry stays as it is.
-pub fn nearest(samples: &[u32], octants: &[u32], centre: PanelColour, radius: f32) -> Reply
+pub fn nearest(
+    samples: &[u32],
+    octants: &[u32],
+    centre: PanelColour,
+    radius: f32,
+) -> Result<Reply, Refusal>
     ensures meets { (listing : List ℕ) → AskMeets
         (Query.Nearest centre radius) listing (tables_read samples octants) (reply_answer result listing) }
     ensures bounds { (listing : List ℕ) → Bounds listing (tables_read samples octants) (reply_answer result listing) }

@@ -2,7 +2,7 @@
 use Prim.Native.Nat.{ℕ}
 use mathlib.Core.Bool.{Bool, true, false}
 use mathlib.Core.List.{List}
-use mathlib.Core.Path.{◌≡◌, refl, sym, ap, ◌∙◌, subst}
+use mathlib.Core.Path.{◌≡◌, refl, sym, ap, ◌∙◌}
 use native.Mathlib.Omega.{arith}
 use lib.Dec.{ltb}
 use lib.Ieee.{Float}
@@ -11,18 +11,14 @@ use Rattle.colour.specs.Channels.{PanelColour}
 use Rattle.colour.specs.declared.Query.{Query}
 use Rattle.colour.specs.declared.Query.TheVariants as Q
 use Rattle.colour.specs.declared.Region.{Region}
-use Rattle.colour.specs.declared.Region.TheVariants as R
 use Rattle.colour.specs.declared.panel.Wanted.{Wanted}
 use Rattle.colour.specs.declared.panel.Wanted.TheVariants as W
-use Rattle.colour.specs.declared.panel.Asked.TheVariants as A
+use Rattle.std.specs.Prelude.{Some, None, Result, Ok, Err}
 use Rattle.colour.specs.declared.refusal.Refusal.{Refusal}
 use Rattle.colour.specs.declared.refusal.Refusal.TheVariants.{TooShort}
-use Rattle.colour.specs.Colour.{InRange}
 use Rattle.colour.specs.Query.{query_good, in_codes, asked_of}
 use Rattle.colour.specs.Refusal.{refusal_number}
-use Rattle.colour.specs.Region.{Fair}
-use Rattle.colour.proofs.Laws.Channels.{in_range}
-use Rattle.colour.proofs.Floats.Queries.{asked_told, asked_refused, RegionFits, WantedFits, wanted_fits}
+use Rattle.colour.proofs.Floats.Queries.{asked_told, asked_refused}
 use Rattle.model.specs.Layout.{current}
 use Rattle.model.specs.Tables.{Tables}
 use Rattle.model.specs.Machine.{Answer, plain, nearest_answer, list_answer}
@@ -34,40 +30,25 @@ use Rattle.query.specs.declared.answers.Reply.{Reply}
 use Rattle.query.specs.Answers.{reply_answer, of_kind, raw_wanted, raw_answer, Bounds, AskMeets}
 use Rattle.query.proofs.Laws.Answered.{raw_short, raw_refused, raw_wanted_lem, ask_meets, ask_bounds}
 
--- What is asked for lies in range.
-asked_fits : (q : Query) (w : Wanted) → asked_of q ≡ A.For w → WantedFits w
-asked_fits q w e = let t = asked_told q w e in subst WantedFits t.1 (wanted_fits q t.0)
-
-pub region_fair : (q : Query) (g : Region) → asked_of q ≡ A.For (W.Listed g) → Fair g
-unfolding Fair
-region_fair q g e = fair g (asked_fits q (W.Listed g) e)
-  where
-    fair : (g : Region) → RegionFits g → Fair g
-    fair (R.Ball c r) h = in_range c h.0
-    fair (R.Box lo hi) h = tt
-
-pub centre_fair : (q : Query) (c : Colour) (r : ℕ) → asked_of q ≡ A.For (W.Nearest c r) → InRange c
-centre_fair q c r e = in_range c (asked_fits q (W.Nearest c r) e).0
-
 -- The answer of each case is the named one.
 module _ (q : Query) (l : List ℕ) (t : Tables) where
-  pub short_named : long_enough current t ≡ false → reply_answer (Reply.Refused TooShort) l ≡ raw_answer t q l
+  pub short_named : long_enough current t ≡ false → reply_answer (Err TooShort) l ≡ raw_answer t q l
   unfolding reply_answer
   short_named e = sym (raw_short q l t e)
 
-  pub refused_named : long_enough current t ≡ true → (r : Refusal) → asked_of q ≡ A.Refused r → reply_answer (Reply.Refused r) l ≡ raw_answer t q l
+  pub refused_named : long_enough current t ≡ true → (r : Refusal) → asked_of q ≡ Err r → reply_answer (Err r) l ≡ raw_answer t q l
   unfolding reply_answer
   refused_named long r e =
       let no = asked_refused q r e in
       ap (λ (x : Refusal). plain (refusal_number x) l) no.1 ∙ sym (raw_refused q l t long no.0)
 
-  pub wanted_named : long_enough current t ≡ true → {w : Wanted} {a : Answer} → asked_of q ≡ A.For w → a ≡ raw_wanted t w l → a ≡ raw_answer t q l
+  pub wanted_named : long_enough current t ≡ true → {w : Wanted} {a : Answer} → asked_of q ≡ Ok w → a ≡ raw_wanted t w l → a ≡ raw_answer t q l
   wanted_named long {w} e d =
       let yes = asked_told q w e in
       d ∙ sym (raw_wanted_lem q l t long yes.0 ∙ ap (λ (x : Wanted). raw_wanted t x l) yes.1)
 
   -- So the contract holds.
-  pub reply_meets : (kind : Bool) (r : Reply) (left : List ℕ) → reply_answer r left ≡ raw_answer t q l → of_kind kind r ≡ true
+  pub reply_meets : (kind : Bool) (r : Result Reply Refusal) (left : List ℕ) → reply_answer r left ≡ raw_answer t q l → of_kind kind r ≡ true
       → (AskMeets q l t (reply_answer r left)) × ((Bounds l t (reply_answer r left)) × (of_kind kind r ≡ true))
   reply_meets kind r left e k = (ask_meets q l t (reply_answer r left) e, (ask_bounds q l t (reply_answer r left) e, k))
 
@@ -84,18 +65,18 @@ good_finds (Q.Ball c r) d n e = let z : ◌≡◌ {A = ℕ} 0 1 = cc in absurd (
 good_finds (Q.Box lo hi) d n e = let z : ◌≡◌ {A = ℕ} 0 1 = cc in absurd (omega arith)
 good_finds (Q.Nearest c r) d n e = refl
 
-pub asked_lists : (q : Query) (g : Region) → asked_of q ≡ A.For (W.Listed g) → lists q ≡ true
+pub asked_lists : (q : Query) (g : Region) → asked_of q ≡ Ok (W.Listed g) → lists q ≡ true
 asked_lists q g e = good_lists q g (asked_told q (W.Listed g) e).1
 
-pub asked_finds : (q : Query) (c : Colour) (r : ℕ) → asked_of q ≡ A.For (W.Nearest c r) → lists q ≡ false
+pub asked_finds : (q : Query) (c : Colour) (r : ℕ) → asked_of q ≡ Ok (W.Nearest c r) → lists q ≡ false
 asked_finds q c r e = good_finds q c r (asked_told q (W.Nearest c r) e).1
 
 -- So a reply of that kind is one of the query's kind.
-pub of_kind_lem : {k l : Bool} (r : Reply) → k ≡ l → of_kind l r ≡ true → of_kind k r ≡ true
+pub of_kind_lem : {k l : Bool} (r : Result Reply Refusal) → k ≡ l → of_kind l r ≡ true → of_kind k r ≡ true
 of_kind_lem r e h = ap (λ (x : Bool). of_kind x r) e ∙ h
 
 -- Both kinds refuse.
-pub refusal_kind : (kind : Bool) (r : Refusal) → of_kind kind (Reply.Refused r) ≡ true
+pub refusal_kind : (kind : Bool) (r : Refusal) → of_kind kind (Err r) ≡ true
 unfolding of_kind
 refusal_kind kind r = refl
 
@@ -115,20 +96,20 @@ relisted l a =
     }
 
 -- A reply's listing is the one that is left.
-pub reply_listing : (r : Reply) (l : List ℕ) → (reply_answer r l).listing ≡ l
+pub reply_listing : (r : Result Reply Refusal) (l : List ℕ) → (reply_answer r l).listing ≡ l
 unfolding reply_answer plain nearest_answer list_answer
-reply_listing (Reply.Listed n e m) l = refl
-reply_listing (Reply.Found tag d) l = refl
-reply_listing Reply.Nothing l = refl
-reply_listing (Reply.Refused r) l = refl
+reply_listing (Ok (Reply.Listed c)) l = refl
+reply_listing (Ok (Reply.Nearest (Some near))) l = refl
+reply_listing (Ok (Reply.Nearest None)) l = refl
+reply_listing (Err r) l = refl
 
 -- A reply is the same with any listing, and so is what nearest answers.
-reply_relisted : (r : Reply) (l l' : List ℕ) → reply_answer r l' ≡ relisted l' (reply_answer r l)
+reply_relisted : (r : Result Reply Refusal) (l l' : List ℕ) → reply_answer r l' ≡ relisted l' (reply_answer r l)
 unfolding reply_answer relisted plain nearest_answer list_answer
-reply_relisted (Reply.Listed n e m) l l' = refl
-reply_relisted (Reply.Found tag d) l l' = refl
-reply_relisted Reply.Nothing l l' = refl
-reply_relisted (Reply.Refused r) l l' = refl
+reply_relisted (Ok (Reply.Listed c)) l l' = refl
+reply_relisted (Ok (Reply.Nearest (Some near))) l l' = refl
+reply_relisted (Ok (Reply.Nearest None)) l l' = refl
+reply_relisted (Err r) l l' = refl
 
 best_relisted : (limit : ℕ) (b : Best) (l l' : List ℕ) → best_answer limit b l' ≡ relisted l' (best_answer limit b l)
 unfolding best_answer relisted nearest_answer
@@ -156,5 +137,5 @@ module _ (t : Tables) (c : PanelColour) (r : Float) where
       go true true d f = rw (raw_wanted_lem near l' t d f, raw_wanted_lem near l t d f) (best_relisted _ _ l l')
 
   -- So what nearest answers is named with any listing where it is with one.
-  pub near_named : (x : Reply) (l m : List ℕ) → reply_answer x m ≡ raw_answer t near l → (l' : List ℕ) → reply_answer x l' ≡ raw_answer t near l'
+  pub near_named : (x : Result Reply Refusal) (l m : List ℕ) → reply_answer x m ≡ raw_answer t near l → (l' : List ℕ) → reply_answer x l' ≡ raw_answer t near l'
   near_named x l m e l' = reply_relisted x m l' ∙ ap (relisted l') e ∙ sym (near_relisted l l')

@@ -22,7 +22,7 @@ pub overflow_add-seen : goal.overflow_add-seen
 overflow_add-seen c = omega (arith, more _ _ _ _ _ _ _ c.loop-row.invariant c.in-Some.ensures.steps)
 
 pub takes-requires : goal.takes-requires
-takes-requires c = (c.requires.0, in_table c)
+takes-requires c = in_table c
 
 pub tag-requires : goal.tag-requires
 tag-requires c = in_table (goal.at.tag-requires c).In-Some

@@ -15,4 +15,4 @@ pub returns : goal.returns
 unfolding takes sample_in
 returns c =
     rw c.if-whole.false
-    (c.holds.ensures ∙ ap (holds c.args.region) (c.wrapped.ensures.is ∙ ap wrapped c.colour.ensures))
+    (c.holds.ensures ∙ ap (holds c.args.region) (c.wrapped.ensures ∙ ap wrapped c.colour.ensures))

@@ -1,17 +1,18 @@
 -- `visit::visit`: the children before `done` were visited or are not entered, and the mask has the others that overlap.
 use Prim.Native.Nat.{ℕ, suc, ◌-◌, ◌<◌}
 use mathlib.Core.Path.{◌≡◌, ap, ◌∙◌}
-use native.Mathlib.Numerals.{add-one}
 use native.Mathlib.Omega.{arith}
 use lib.Pow.{pow_pos}
-use Rattle.colour.specs.Octant.{depths, side_at}
+use Rattle.colour.specs.declared.Cube.{Cube}
+use Rattle.colour.specs.Mask.{overlap_mask}
+use Rattle.colour.specs.Octant.{depths, side_at, child_cube}
 use Rattle.colour.proofs.Laws.Mask.{First}
 use Rattle.listing.specs.Steps.{tally_in, Counting}
 use Rattle.listing.proofs.Laws.Steps.Turning.{meets, allowed, allowed_is, turning_begins, turning_ends, turning_barred, turning_visited, turning_counting, is_first, visited_long}
 use Rattle.traversal.proofs.Laws.Cubes.{limit_rows, child_depth}
 use Rattle.listing.proofs.Laws.Steps.Visiting.{allowed_row, entered_counting, own_visited, deep, turns_visited, mask_is, child_visited}
 use Rattle.listing.proofs.visit.+visit.Goals as goal
-use Rattle.listing.proofs.visit.+visit.Goals.{After-enter, Else-ends, After-side-half, After-first-k, After-may_enter}
+use Rattle.listing.proofs.visit.+visit.Goals.{After-enter, Else-ends, After-parent_of-parent, After-first-k, After-may_enter}
 
 after_enter : (t : ℕ) (c : After-enter t) → Counting c.args.samples.now c.args.octants.now c.enter.new.self
 after_enter t c =
@@ -25,8 +26,8 @@ deep_at t c =
     deep _ _ c.args.region _ _ _ _ p.within p.counting p.next_bound.0 p.next_bound.1 c.enter.ensures c.inside-whole.result c.ends.result
     c.inside-whole.ensures c.ends.ensures c.if-ends.false
 
-halved : (t : ℕ) (c : After-side-half t) → c.side-half.result ≡ side_at (suc c.args.cube.depth)
-halved t c = c.side-half.ensures.is ∙ ap side_at (add-one _)
+halved : (t : ℕ) (c : After-parent_of-parent t) → c.parent_of-parent.result.half ≡ side_at (suc c.args.cube.depth)
+halved t c = c.parent_of-parent.result.halved ∙ ap (λ (x : Cube). side_at (suc x.depth)) c.parent_of-parent.ensures
 
 -- The child that is next.
 found : (t : ℕ) (c : After-first-k t)
@@ -49,7 +50,7 @@ enter-requires t c =
     (omega (arith, k.limits.entered, c.requires.next_bound), omega (arith, k.small, c.requires.next_bound))
 
 pub inside-whole-requires : goal.inside-whole-requires
-inside-whole-requires t c = (c.requires.fair, c.requires.within)
+inside-whole-requires t c = c.requires.within
 
 pub ends-requires : goal.ends-requires
 unfolding depths
@@ -57,7 +58,7 @@ ends-requires t c = (c.requires.counting.samples, (limit_rows _ _ c.requires.nex
 
 pub own_samples-requires : goal.own_samples-requires
 own_samples-requires t c =
-    record { fair = c.requires.fair; counting = after_enter t (goal.at.own_samples-requires t c).After-enter; row_bound = c.requires.next_bound.1 }
+    record { counting = after_enter t (goal.at.own_samples-requires t c).After-enter; row_bound = c.requires.next_bound.1 }
 
 pub returns-then-ends : goal.returns-then-ends
 returns-then-ends t c =
@@ -68,21 +69,14 @@ returns-then-ends t c =
 pub octant_limit-limit-requires : goal.octant_limit-limit-requires
 octant_limit-limit-requires t c = c.requires.counting.octants
 
-pub overflow_add-depth : goal.overflow_add-depth
-overflow_add-depth t c = omega (arith, deep_at t (goal.at.overflow_add-depth t c).Else-ends)
-
-pub side-half-requires : goal.side-half-requires
-side-half-requires t c = omega (arith, deep_at t (goal.at.side-half-requires t c).Else-ends)
-
-pub overlapping-left-requires : goal.overlapping-left-requires
-overlapping-left-requires t c =
-    let at = goal.at.overlapping-left-requires t c in
-    record { fair = (c.requires.fair, c.requires.within); depth_bound = deep_at t at.Else-ends; half_value = halved t at.After-side-half }
+pub parent_of-parent-requires : goal.parent_of-parent-requires
+parent_of-parent-requires t c =
+    record { within = c.requires.within; deep = deep_at t (goal.at.parent_of-parent-requires t c).Else-ends }
 
 pub loop-left-init : goal.loop-left-init
 loop-left-init t c =
     let at = goal.at.loop-left-init t c in
-    turning_begins _ _ _ _ _ _ _ _ _ (mask_is c.args.cube _ (halved t at.After-side-half) _ _ c.overlapping-left.ensures.is)
+    turning_begins _ _ _ _ _ _ _ _ _ (mask_is c.args.cube _ (halved t at.After-parent_of-parent) _ _ (c.overlapping-left.ensures.is ∙ ap (λ (x : Cube). overlap_mask c.args.region c.parent_of-parent.result.half x.low) c.parent_of-parent.ensures))
 
 pub without-left-requires : goal.without-left-requires
 without-left-requires t c =
@@ -93,17 +87,13 @@ pub octant_child-next-requires : goal.octant_child-next-requires
 octant_child-next-requires t c =
     (limit_rows _ _ c.requires.next_bound.1, (found t (goal.at.octant_child-next-requires t c).After-first-k).below)
 
-pub child-requires : goal.child-requires
-child-requires t c =
-    let at = goal.at.child-requires t c in
-    record { cube_within = c.requires.within; depth_bound = deep_at t at.Else-ends; half_value = halved t at.After-side-half }
-
 pub visit-requires : goal.visit-requires
 visit-requires t c =
     let at = goal.at.visit-requires t c in
+    let e = c.child.ensures.is ∙ ap (λ (x : Cube). child_cube x c.first-k.result) c.parent_of-parent.ensures in
     let r = allowed_row _ _ _ _ _ c.may_enter.ensures c.if-may_enter.true c.octant_limit-limit.ensures in (
-      omega (arith, c.decreases, deep_at t at.Else-ends, child_depth c.args.cube _ _ c.child.ensures.is),
-      (c.requires.fair, (c.child.ensures.within, (turning_counting _ _ _ _ _ _ c.loop-left.invariant (after_enter t at.After-enter), r))),
+      omega (arith, c.decreases, deep_at t at.Else-ends, child_depth c.args.cube _ _ e),
+      (c.child.ensures.within, (turning_counting _ _ _ _ _ _ c.loop-left.invariant (after_enter t at.After-enter), r)),
     )
 
 pub loop-left-smaller-then-may_enter : goal.loop-left-smaller-then-may_enter
@@ -116,7 +106,8 @@ loop-left-preserved-then-may_enter t c =
     let at = goal.at.loop-left-preserved-then-may_enter t c in
     turning_visited _ _ _ _ _ _ c.loop-left.invariant c.loop-left-test.true _ c.first-k.ensures _ c.without-left.ensures
     (permitted t at.After-may_enter ∙ c.if-may_enter.true)
-    (child_visited c.args.cube _ (halved t at.After-side-half) _ _ _ _ _ _ _ c.child.ensures.is c.octant_child-next.ensures c.visit.ensures)
+    (child_visited c.args.cube _ (halved t at.After-parent_of-parent) _ _ _ _ _ _ _
+    (c.child.ensures.is ∙ ap (λ (x : Cube). child_cube x c.first-k.result) c.parent_of-parent.ensures) c.octant_child-next.ensures c.visit.ensures)
 
 pub loop-left-smaller : goal.loop-left-smaller
 loop-left-smaller t c =

@@ -17,7 +17,7 @@ octant_first-requires c =
 pub follow-run-requires : goal.follow-run-requires
 follow-run-requires c =
     let k = c.requires.counting in
-    (c.requires.fair, own_start _ _ c.args.region c.args.whole _ c.args.tally.now _ _ refl c.most-most.ensures k)
+    own_start _ _ c.args.region c.args.whole _ c.args.tally.now _ _ refl c.most-most.ensures k
 
 pub count-requires : goal.count-requires
 count-requires c =

@@ -1,4 +1,6 @@
 -- `leaf::own`: as many samples as the octant counts and as may still be visited, measured.
+use Rattle.std.proofs.Common.{rules}
+use Rattle.colour.specs.Probe.{Fine}
 use mathlib.Core.Path.{◌∙◌, ap}
 use native.Mathlib.Omega.{arith}
 use Rattle.traversal.proofs.Laws.Rows.{budget_most}
@@ -19,10 +21,6 @@ pub octant_first-first-requires : goal.octant_first-first-requires
 octant_first-first-requires c =
     limit_rows _ _ c.requires.octant_bound
 
-pub measure-run-requires : goal.measure-run-requires
-measure-run-requires c =
-    c.requires.fine
-
 pub take-requires : goal.take-requires
 take-requires c =
     omega (arith, c.requires.ready.limits.visited, budget_most c.args.samples.now)
@@ -31,6 +29,7 @@ pub returns : goal.returns
 returns c =
     let ws = c.args.samples.now in
     let os = c.args.octants.now in
+    let fine : Fine c.args.p = record { centre = record { red = search rules; green = search rules; blue = search rules } } in
     c.take.ensures
     ∙ ap search_as
-    (own_ranked ws os c.args.p c.requires.fine c.args.octant (search_in c.args.search.now) _ c.measure-run.result c.octant_first-first.ensures c.most-count.ensures c.measure-run.ensures)
+    (own_ranked ws os c.args.p fine c.args.octant (search_in c.args.search.now) _ c.measure-run.result c.octant_first-first.ensures c.most-count.ensures c.measure-run.ensures)

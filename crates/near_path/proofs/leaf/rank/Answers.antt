@@ -7,9 +7,9 @@ use Rattle.near_path.proofs.leaf.rank.Goals as goal
 
 pub overflow_add-result : goal.overflow_add-result
 overflow_add-result c =
-    omega (arith, c.squared.ensures.bounded, (row_room _ _ c.requires.1).1)
+    omega (arith, c.squared.ensures.bounded, (row_room _ _ c.requires).1)
 
 pub returns : goal.returns
 unfolding rank_of sample_in
 returns c =
-    rw (c.squared.ensures.is, c.wrapped.ensures.is, c.colour.ensures)
+    rw (c.squared.ensures.is, c.wrapped.ensures, c.colour.ensures)

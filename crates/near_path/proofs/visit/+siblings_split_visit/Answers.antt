@@ -2,7 +2,8 @@
 -- definition's.
 use Prim.Native.Nat.{ℕ, ◌<◌}
 use mathlib.Core.List.{List}
-use mathlib.Core.Path.{◌≡◌, sym, ap, ◌∙◌, subst}
+use mathlib.Core.Path.{◌≡◌, sym, ap, ap₂, ◌∙◌, subst}
+use Rattle.colour.specs.declared.Cube.{Cube}
 use native.Mathlib.Omega.{arith}
 use lib.Pow.{pow_pos}
 use Rattle.colour.specs.declared.Probe.{Probe}
@@ -17,7 +18,7 @@ use Rattle.traversal.specs.Search.{Searching, search_entering, own_search}
 use Rattle.traversal.specs.Spot.{Stood, Forked, fork_of, turn_at, siblings_at, split_at}
 use Rattle.traversal.proofs.Laws.Cubes.{limit_rows}
 use Rattle.traversal.proofs.Laws.Search.Keeps.{entering_within, still_ready}
-use Rattle.traversal.proofs.Laws.Search.Spots.{fork_half, first_small, kid_small, kid_turn, kid_first, far_rising, turn_small}
+use Rattle.traversal.proofs.Laws.Search.Spots.{first_small, kid_small, kid_turn, kid_first, far_rising, turn_small}
 use Rattle.traversal.proofs.Laws.Search.Spots.{Told, turn_told, told_barred, told_entered, told_room, told_stood, told_depth, search_own, search_deep, search_split, turn_at_within}
 use Rattle.traversal.proofs.Laws.Search.Path.{Siblings, turning_begins, next_is, turning_barred, turning_visited, turning_ends}
 use Rattle.near_path.specs.Best.{Kept, bests}
@@ -35,6 +36,11 @@ known : (ws : List ℕ) (lent : Search) {p : Probe} {spot : Spot} {fork : Fork} 
 known ws lent f e =
     record { forked = f; far_is = e; beyond = best_beyond (search_in lent).kept; steady = best_steady _ _ }
 
+-- What the far halves add, by the octant itself.
+far_is : (p : Probe) (half half' : ℕ) (cube cube' : Cube) {far : Squares} → far ≡ far_of p half' cube'.low → half' ≡ half → cube' ≡ cube
+    → far ≡ far_of p half cube.low
+far_is p half half' cube cube' e h c = e ∙ ap₂ (λ (s : ℕ) (x : Cube). far_of p s x.low) h c
+
 turning : (t : ℕ) (c : siblings-In-loop-left t) → SearchReady c.args.samples.now c.args.octants.now (search_in c.loop-left.search)
 turning t c = still_ready c.requires.ready c.loop-left.invariant.limits
 
@@ -43,7 +49,7 @@ found : (t : ℕ) (c : siblings-After-first-turn t)
     → First (turn_within (search_in c.args.search.now).kept.distance c.args.spot.near c.far_of-far.result) c.loop-left.invariant.done 8 c.loop-left.left
     c.first-turn.result
 found t c =
-    next_is (known c.args.samples.now c.args.search.now c.requires.forked.0 c.far_of-far.ensures) c.loop-left.invariant c.loop-left-test.true
+    next_is (known c.args.samples.now c.args.search.now c.requires.forked.0 (far_is c.args.p _ _ c.args.spot.cube _ c.far_of-far.ensures c.parent_at.ensures.half c.parent_at.ensures.cube)) c.loop-left.invariant c.loop-left-test.true
     c.first-turn.ensures
 
 told : (t : ℕ) (c : siblings-After-reaches t)
@@ -53,11 +59,8 @@ told t c =
     turn_told (c.child_at-next.ensures ∙ ap (child_at c.args.octants.now c.args.row) (kid_turn c.requires.forked.0 _)) c.sibling_spot-to.ensures
     c.sum_by.ensures c.octant_limit-limit.ensures (c.reaches.ensures c.args.samples.now c.args.p)
 
-pub siblings-far_of-far-requires-clause-half_value : goal.siblings-far_of-far-requires-clause-half_value
-siblings-far_of-far-requires-clause-half_value t c = fork_half c.requires.forked.0
-
 pub siblings-turns-left-requires : goal.siblings-turns-left-requires
-siblings-turns-left-requires t c = far_rising c.requires.forked.0 c.far_of-far.ensures
+siblings-turns-left-requires t c = far_rising c.requires.forked.0 (far_is c.args.p _ _ c.args.spot.cube _ c.far_of-far.ensures c.parent_at.ensures.half c.parent_at.ensures.cube)
 
 pub siblings-loop-left-init : goal.siblings-loop-left-init
 siblings-loop-left-init t c = turning_begins _ _ _ _ _ _ _ _ _ c.requires.ready.limits c.turns-left.ensures
@@ -93,7 +96,7 @@ siblings-loop-left-smaller-then-reaches t c =
 pub siblings-loop-left-preserved-then-reaches : goal.siblings-loop-left-preserved-then-reaches
 siblings-loop-left-preserved-then-reaches t c =
     let at = goal.at.siblings-loop-left-preserved-then-reaches t c in
-    turning_visited (known c.args.samples.now c.args.search.now c.requires.forked.0 c.far_of-far.ensures) c.loop-left.invariant c.loop-left-test.true
+    turning_visited (known c.args.samples.now c.args.search.now c.requires.forked.0 (far_is c.args.p _ _ c.args.spot.cube _ c.far_of-far.ensures c.parent_at.ensures.half c.parent_at.ensures.cube)) c.loop-left.invariant c.loop-left-test.true
     c.first-turn.ensures c.without-left.ensures (subst (Told _ _ _ _ _ _ _ _ _ _) c.if-reaches.true (told t at.After-reaches)) (ap search_in c.visit.ensures)
 
 pub siblings-loop-left-smaller : goal.siblings-loop-left-smaller
@@ -104,13 +107,13 @@ siblings-loop-left-smaller t c =
 pub siblings-loop-left-preserved : goal.siblings-loop-left-preserved
 siblings-loop-left-preserved t c =
     let at = goal.at.siblings-loop-left-preserved t c in
-    turning_barred (known c.args.samples.now c.args.search.now c.requires.forked.0 c.far_of-far.ensures) c.loop-left.invariant c.loop-left-test.true
+    turning_barred (known c.args.samples.now c.args.search.now c.requires.forked.0 (far_is c.args.p _ _ c.args.spot.cube _ c.far_of-far.ensures c.parent_at.ensures.half c.parent_at.ensures.cube)) c.loop-left.invariant c.loop-left-test.true
     c.first-turn.ensures c.without-left.ensures (subst (Told _ _ _ _ _ _ _ _ _ _) c.if-reaches.false (told t at.After-reaches))
 
 pub siblings-returns : goal.siblings-returns
 siblings-returns t c =
     ap search_as
-    (turning_ends (known c.args.samples.now c.args.search.now c.requires.forked.0 c.far_of-far.ensures) c.loop-left.invariant c.loop-left-test.false)
+    (turning_ends (known c.args.samples.now c.args.search.now c.requires.forked.0 (far_is c.args.p _ _ c.args.spot.cube _ c.far_of-far.ensures c.parent_at.ensures.half c.parent_at.ensures.cube)) c.loop-left.invariant c.loop-left-test.false)
 
 -- Where the children of an octant are gone through.
 parted : {p : Probe} {spot : Spot} {fork : Fork} → (Stood p spot) × (spot.cube.depth < 16) → fork ≡ fork_of p spot.cube → Forked p spot fork

@@ -1,4 +1,6 @@
 -- `visit::nearest`: the root is searched, or there is none.
+use Rattle.std.proofs.Common.{rules}
+use Rattle.colour.specs.Probe.{Fine}
 use Prim.Native.Nat.{◌<◌}
 use mathlib.Core.Path.{◌≡◌, sym, ap, ◌∙◌, subst}
 use native.Mathlib.Omega.{arith}
@@ -21,7 +23,8 @@ visit-requires c =
     let ws = c.args.samples.now in
     let os = c.args.octants.now in
     let there : 0 < octant_limit current os = omega (arith, l.ensures, c.if-octant_limit-gt0.true) in
-    record { stood = (subst (Stood c.args.p) (sym c.root_spot.ensures) (root_stood c.args.p c.requires.fine), there); ready = begin_ready ws os c.args.p c.args.radius squared started c.requires.headed.0 c.requires.headed.1 (omega (arith, l.ensures, l.type_inv)); search_bound = begin_room ws os c.args.p c.args.radius squared started there }
+    let fine : Fine c.args.p = record { centre = record { red = search rules; green = search rules; blue = search rules } } in
+    record { stood = (subst (Stood c.args.p) (sym c.root_spot.ensures) (root_stood c.args.p fine), there); ready = begin_ready ws os c.args.p c.args.radius squared started c.requires.headed.0 c.requires.headed.1 (omega (arith, l.ensures, l.type_inv)); search_bound = begin_room ws os c.args.p c.args.radius squared started there }
 
 pub returns : goal.returns
 unfolding best_found

@@ -6,4 +6,4 @@ use Rattle.nearest.proofs.search.measure_row.Goals as goal
 pub returns : goal.returns
 unfolding measure_row sample_in
 returns c =
-    rw (c.taken.ensures, c.squared-distance.ensures.is, c.wrapped.ensures.is, c.colour.ensures, c.tag.ensures)
+    rw (c.taken.ensures, c.squared-distance.ensures.is, c.wrapped.ensures, c.colour.ensures, c.tag.ensures)

@@ -22,7 +22,7 @@ pub visit-found-requires : goal.visit-found-requires
 visit-found-requires c =
     let l = c.octant_limit in
     let there : 0 < octant_limit current c.args.octants.now = omega (arith, l.ensures, c.if-octant_limit-eq0.false) in
-    let r = starting c.args.samples.now c.args.octants.now c.args.centre c.args.radius c.requires.headed.0 c.requires.headed.1 (omega (arith, l.ensures, l.type_inv)) there in record { in_range = c.requires.in_range; within = c.root.ensures.within; ready = subst (Ready c.args.samples.now c.args.octants.now) (sym c.start-none.ensures) r.0; row_bound = (there, subst (λ (x : Search). x.entered < octant_limit current c.args.octants.now) (sym c.start-none.ensures) r.1) }
+    let r = starting c.args.samples.now c.args.octants.now c.args.centre c.args.radius c.requires.headed.0 c.requires.headed.1 (omega (arith, l.ensures, l.type_inv)) there in record { within = c.root.ensures.within; ready = subst (Ready c.args.samples.now c.args.octants.now) (sym c.start-none.ensures) r.0; row_bound = (there, subst (λ (x : Search). x.entered < octant_limit current c.args.octants.now) (sym c.start-none.ensures) r.1) }
 
 pub returns : goal.returns
 unfolding root_cube depths

@@ -1,13 +1,17 @@
 -- `ask::ask`: the answer of each question in turn.
 use Prim.Native.Nat.{ℕ}
 use mathlib.Core.Path.{sym, ap, ap₂, ◌∙◌}
-use Rattle.colour.specs.declared.panel.Asked.TheVariants as A
+use Rattle.std.specs.Prelude.{Result, Ok}
+use Rattle.colour.specs.declared.refusal.Refusal.{Refusal}
+use Rattle.colour.proofs.Laws.Refused.{passed_on}
+use Rattle.query.specs.declared.answers.Reply.{Reply}
+use Rattle.model.specs.Meets.{lists}
 use Rattle.model.specs.Sound.{long_enough}
 use Rattle.octree.proofs.Laws.Tables.Check.{both_long}
 use Rattle.nearest.specs.declared.best.Best.{Best}
 use Rattle.nearest.specs.Best.{best_answer}
-use Rattle.query.specs.Answers.{raw_wanted}
-use Rattle.query.proofs.Laws.Asked.{region_fair, centre_fair, asked_lists, asked_finds, of_kind_lem, refusal_kind}
+use Rattle.query.specs.Answers.{reply_answer, of_kind, raw_wanted}
+use Rattle.query.proofs.Laws.Asked.{asked_lists, asked_finds, of_kind_lem, refusal_kind}
 use Rattle.query.proofs.Laws.Asked.{short_named, refused_named, wanted_named, reply_meets}
 use Rattle.query.proofs.ask.ask.Goals as goal
 
@@ -20,24 +24,19 @@ pub list-requires : goal.list-requires
 unfolding long_enough
 list-requires c =
     let long = sym c.long_enough.ensures ∙ c.if-not-long_enough.false in
-    let s = c.args in
-    let is = sym c.asked_of.ensures.1 ∙ c.in-For.is ∙ ap A.For c.in-Listed.is in (
-      region_fair _ _ is,
-      both_long s.samples.now s.octants.now long,
-    )
+    let s = c.args in both_long s.samples.now s.octants.now long
 
-pub nearest-requires : goal.nearest-requires
+pub nearest-best-requires : goal.nearest-best-requires
 unfolding long_enough
-nearest-requires c =
+nearest-best-requires c =
     let long = sym c.long_enough.ensures ∙ c.if-not-long_enough.false in
-    let s = c.args in
-    let is = sym c.asked_of.ensures.1 ∙ c.in-For.is ∙ ap A.For c.in-Nearest.is in record { in_range = centre_fair _ _ _ is; headed = both_long s.samples.now s.octants.now long }
+    let s = c.args in record { headed = both_long s.samples.now s.octants.now long }
 
 pub returns-in-Listed : goal.returns-in-Listed
 unfolding long_enough raw_wanted
 returns-in-Listed c =
     let long = sym c.long_enough.ensures ∙ c.if-not-long_enough.false in
-    let is = sym c.asked_of.ensures.1 ∙ c.in-For.is ∙ ap A.For c.in-Listed.is in
+    let is = sym c.try_from.ensures.1 ∙ c.in_ok-wanted.was ∙ ap Ok c.in-Listed.is in
     let both = reply_meets _ _ _ _ _ _
     (wanted_named _ _ _ long is (c.of_listed.ensures.is _ ∙ c.list.ensures))
     (of_kind_lem c.of_listed.result (asked_lists _ _ is) c.of_listed.ensures.kind) in record { meets = both.0; bounds = both.1.0; kind = both.1.1 }
@@ -47,16 +46,17 @@ unfolding long_enough raw_wanted
 returns-in-Nearest c =
     let long = sym c.long_enough.ensures ∙ c.if-not-long_enough.false in
     let l = c.args.listing.now in
-    let is = sym c.asked_of.ensures.1 ∙ c.in-For.is ∙ ap A.For c.in-Nearest.is in
+    let is = sym c.try_from.ensures.1 ∙ c.in_ok-wanted.was ∙ ap Ok c.in-Nearest.is in
     let both = reply_meets _ _ _ _ _ _
     (wanted_named _ _ _ long is
-    (c.of_best.ensures.is l ∙ ap₂ (λ (n : ℕ) (x : Best). best_answer n x l) c.square.ensures c.nearest.ensures))
-    (of_kind_lem c.of_best.result (asked_finds _ _ _ is) c.of_best.ensures.kind) in record { meets = both.0; bounds = both.1.0; kind = both.1.1 }
+    (c.of_best.ensures.is l ∙ ap₂ (λ (n : ℕ) (x : Best). best_answer n x l) c.square.ensures c.nearest-best.ensures))
+    (of_kind_lem (Ok c.of_best.result) (asked_finds _ _ _ is) c.of_best.ensures.kind) in record { meets = both.0; bounds = both.1.0; kind = both.1.1 }
 
-pub returns-in-Refused : goal.returns-in-Refused
+pub returns-in_err-wanted : goal.returns-in_err-wanted
 unfolding long_enough
-returns-in-Refused c =
+returns-in_err-wanted c =
     let long = sym c.long_enough.ensures ∙ c.if-not-long_enough.false in
-    let both = reply_meets _ _ _ _ _ _
-    (refused_named _ _ _ long _ (sym c.asked_of.ensures.1 ∙ c.in-Refused.is))
-    (refusal_kind _ _) in record { meets = both.0; bounds = both.1.0; kind = both.1.1 }
+    let e = passed_on c.in_err-wanted.field-0.0 c.from_residual.result c.from_residual.ensures.1 in
+    let both = reply_meets _ _ _ _ c.from_residual.result _
+    (ap (λ (r : Result Reply Refusal). reply_answer r c.args.listing.now) e ∙ refused_named _ _ _ long _ (sym c.try_from.ensures.1 ∙ c.in_err-wanted.was))
+    (ap (of_kind (lists c.args.query)) e ∙ refusal_kind _ _) in record { meets = both.0; bounds = both.1.0; kind = both.1.1 }
