@@ -31,12 +31,51 @@ fn words_of(given: Given) -> [u32; ANSWER]
 {
     match given {
         Given::Changed(answer) => [number_of(answer), 0, 0, 0, 0, 0, 0, 0, 0, 0, 0, 0],
-        Given::Loaded(answer) => [load_number(answer), lines_taken(answer), 0, 0, 0, 0, 0, 0, 0, 0, 0, 0],
-        Given::Replied(Ok(Reply::Listed(counts))) => [0, 0, counts.listed, counts.entered, counts.measured, 0, 0, 0, 0, 0, 0, 0],
+        Given::Loaded(answer) => [
+            load_number(answer),
+            lines_taken(answer),
+            0,
+            0,
+            0,
+            0,
+            0,
+            0,
+            0,
+            0,
+            0,
+            0,
+        ],
+        Given::Replied(Ok(Reply::Listed(counts))) => [
+            0,
+            0,
+            counts.listed,
+            counts.entered,
+            counts.measured,
+            0,
+            0,
+            0,
+            0,
+            0,
+            0,
+            0,
+        ],
         Given::Replied(Ok(Reply::Nearest(Some(near)))) => {
             let [tag, upper_tag] = halves(u64::from(near.tag));
             let [distance, upper_distance] = halves(near.distance);
-            [0, 0, 0, 0, 0, 1, tag, upper_tag, distance, upper_distance, 0, 0]
+            [
+                0,
+                0,
+                0,
+                0,
+                0,
+                1,
+                tag,
+                upper_tag,
+                distance,
+                upper_distance,
+                0,
+                0,
+            ]
         }
         Given::Replied(Ok(Reply::Nearest(None))) => [0; ANSWER],
         Given::Replied(Err(refusal)) => [u32::from(refusal), 0, 0, 0, 0, 0, 0, 0, 0, 0, 0, 0],

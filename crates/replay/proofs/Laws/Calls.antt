@@ -1,14 +1,13 @@
 -- The contract of the entry, from that of each kind of call and from what is given for its answer.
 use Prim.Native.Nat.{ℕ}
 use mathlib.Core.List.{List, []}
-use mathlib.Core.Path.{◌≡◌, refl}
+use mathlib.Core.Path.{refl}
 use Rattle.std.specs.Prelude.{Result}
 use Rattle.colour.specs.declared.refusal.Refusal.{Refusal}
 use Rattle.colour.specs.declared.Settings.{Settings}
 use Rattle.colour.specs.declared.Query.{Query}
 use Rattle.model.specs.Tables.{Tables}
-use Rattle.model.specs.Machine.{Clear, Change, Answer}
-use Rattle.model.specs.Machine as M
+use Rattle.model.specs.Machine.{Clear, Change}
 use Rattle.model.specs.Meets.{Meets}
 use Rattle.samples.specs.Answers.{changed_answer}
 use Rattle.query.specs.declared.answers.Reply.{Reply}

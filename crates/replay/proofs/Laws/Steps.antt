@@ -5,7 +5,7 @@ use mathlib.Core.Option.{Option, none, some}
 use mathlib.Core.Path.{◌≡◌, refl, sym, ap, ◌∙◌}
 use native.Mathlib.Omega.{arith}
 use lib.Ieee.{Float}
-use lib.ListN.{length, get_or, take, drop, length-take, get_or-eq_default}
+use lib.ListN.{length, get_or, take, drop, length-take}
 use Rattle.colour.specs.declared.Query.{Query}
 use Rattle.model.specs.Tables.{Tables}
 use Rattle.model.specs.Machine.{Answer, plain, list_answer, nearest_answer}

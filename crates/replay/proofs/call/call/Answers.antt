@@ -14,5 +14,5 @@ returns-in-Change c =
 
 pub returns-in-Ask : goal.returns-in-Ask
 returns-in-Ask c =
-    let a = c.ask in
-    ?
+    rw c.in-Ask.is
+    (ask_meets _ _ _ _ _ _ c.ask.ensures.meets c.ask.ensures.bounds)

@@ -1,5 +1,4 @@
 -- `replay::hbx_replay`: after i turns the first i steps are made.
-use Prim.Native.Nat.{◌-◌, ◌≤◌}
 use mathlib.Core.Path.{◌≡◌}
 use lib.ListN.{length}
 use Rattle.model.specs.Tables.{pair}
