@@ -3,12 +3,14 @@ ghost use Rattle.std.specs.Prelude.{◌%◌, ◌/◌, ◌^◌, ◌≤◌, [], �
 ghost use Rattle.model.specs.Tables.{tables_lent, tables_left};
 ghost use Rattle.replay.specs.Calls.{answer_of};
 ghost use Rattle.replay.specs.Format.{answer_width};
-ghost use Rattle.replay.specs.Script.{script_of, answer_words};
+ghost use Rattle.replay.specs.Script.{script_of, written_over, answer_words};
 ghost use Rattle.replay.specs.Replayed.{Stepped, Replayed};
 
 use crate::call::call;
 use crate::calls::Given;
-use crate::format::{ANSWER, STEP};
+use crate::format::{
+    ANSWER, DISTANCE, ENTERED, FOUND, LISTED, MEASURED, NEAR_TAG, NUMBER, STEP, TAKEN,
+};
 use crate::script::{call_in, lent_to, sheet_in, steps_of};
 use colour::refusal::number_of;
 use query::answers::Reply;
@@ -24,61 +26,31 @@ fn halves(n: u64) -> [u32; 2]
     [(n % HALF) as u32, (n / HALF) as u32]
 }
 
-// What a call gave, as the words of an answer. What its call does not report is 0, and so are the two spare words.
-#[tactic(auto, unfolding(crate::specs::Script::answer_words, crate::specs::Script::flag, crate::specs::Calls::answer_of, query::specs::Answers::reply_answer, samples::specs::Answers::loaded_answer, model::specs::Machine::plain, model::specs::Machine::load_answer, model::specs::Machine::list_answer, model::specs::Machine::nearest_answer))]
-fn words_of(given: Given) -> [u32; ANSWER]
-    ensures { result ≡ answer_words (answer_of given []) }
+// Writes what a call gave, as the words of an answer. What its call does not report is 0, and so are the two spare words.
+#[tactic(auto, unfolding(crate::specs::Script::answer_words, crate::specs::Script::written_over, crate::specs::Script::flag, crate::specs::Calls::answer_of, query::specs::Answers::reply_answer, model::specs::Machine::plain, model::specs::Machine::list_answer, model::specs::Machine::nearest_answer))]
+fn put_given(given: Given, words: &mut [u32])
+    requires { answer_width ≤ length words.old }
+    ensures { words.new ≡ written_over (answer_words (answer_of given [])) words.old }
 {
+    words[..ANSWER].fill(0);
     match given {
-        Given::Changed(answer) => [number_of(answer), 0, 0, 0, 0, 0, 0, 0, 0, 0, 0, 0],
-        Given::Loaded(answer) => [
-            load_number(answer),
-            lines_taken(answer),
-            0,
-            0,
-            0,
-            0,
-            0,
-            0,
-            0,
-            0,
-            0,
-            0,
-        ],
-        Given::Replied(Ok(Reply::Listed(counts))) => [
-            0,
-            0,
-            counts.listed,
-            counts.entered,
-            counts.measured,
-            0,
-            0,
-            0,
-            0,
-            0,
-            0,
-            0,
-        ],
-        Given::Replied(Ok(Reply::Nearest(Some(near)))) => {
-            let [tag, upper_tag] = halves(u64::from(near.tag));
-            let [distance, upper_distance] = halves(near.distance);
-            [
-                0,
-                0,
-                0,
-                0,
-                0,
-                1,
-                tag,
-                upper_tag,
-                distance,
-                upper_distance,
-                0,
-                0,
-            ]
+        Given::Changed(answer) => words[NUMBER] = number_of(answer),
+        Given::Loaded(answer) => {
+            words[NUMBER] = load_number(answer);
+            words[TAKEN] = lines_taken(answer);
         }
-        Given::Replied(Ok(Reply::Nearest(None))) => [0; ANSWER],
-        Given::Replied(Err(refusal)) => [u32::from(refusal), 0, 0, 0, 0, 0, 0, 0, 0, 0, 0, 0],
+        Given::Replied(Ok(Reply::Listed(counts))) => {
+            words[LISTED] = counts.listed;
+            words[ENTERED] = counts.entered;
+            words[MEASURED] = counts.measured;
+        }
+        Given::Replied(Ok(Reply::Nearest(Some(near)))) => {
+            words[FOUND] = 1;
+            [words[NEAR_TAG], words[NEAR_TAG + 1]] = halves(u64::from(near.tag));
+            [words[DISTANCE], words[DISTANCE + 1]] = halves(near.distance);
+        }
+        Given::Replied(Ok(Reply::Nearest(None))) => {}
+        Given::Replied(Err(refusal)) => words[NUMBER] = u32::from(refusal),
     }
 }
 
@@ -101,7 +73,7 @@ fn step(
     let lent = lent_to(next, words, listings.len());
     let sheet = sheet_in(words, sheets);
     let given = call(samples, octants, next, sheet, &mut listings[..lent]);
-    answers[..ANSWER].copy_from_slice(&words_of(given));
+    put_given(given, answers);
     lent
 }
 

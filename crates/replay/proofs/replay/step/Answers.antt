@@ -1,11 +1,6 @@
 -- `replay::step`: what the functions that it calls ensure.
-use Prim.Native.Nat.{ℕ}
-use mathlib.Core.List.{List, ◌++◌}
-use mathlib.Core.Path.{ap, ◌∙◌}
 use native.Mathlib.Omega.{arith}
-use lib.ListN.{length-take, drop}
-use Rattle.replay.specs.Format.{answer_width}
-use Rattle.replay.specs.Script.{answer_words, written_over}
+use lib.ListN.{length-take}
 use Rattle.replay.proofs.Laws.Steps.{stepped}
 use Rattle.replay.proofs.replay.step.Goals as goal
 
@@ -14,11 +9,9 @@ slice_bounds-call-end-2 c =
     simp length-take (omega (arith, c.lent_to-lent.ensures))
 
 pub returns : goal.returns
-unfolding answer_words written_over
 returns c =
     let made = c.call-given in
     let lent = c.lent_to-lent in
     let said = c.call_in-next in
-    let words = c.copy_from_slice.ensures.after ∙ c.words_of.ensures in
     stepped _ _ _ _ _ _ said.result _ lent.result made.result made.new.listing _ _ said.ensures c.sheet_in-sheet.ensures lent.ensures
-    made.auto.listing made.ensures (ap (λ (w : List ℕ). w ++ drop answer_width c.args.answers.now) words)
+    made.auto.listing made.ensures c.put_given.ensures
