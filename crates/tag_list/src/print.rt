@@ -2,12 +2,13 @@
 ghost use Rattle.std.specs.Prelude.{◌≤◌, ◌≡◌, length};
 ghost use Rattle.model.specs.Tables.{pair, tables_read, tables_left};
 ghost use Rattle.model.specs.Walklist.{walklist_prints};
+ghost use Rattle.samples.specs.Answers.{loaded_number};
 ghost use Rattle.tag_list.specs.Printed.{Printed, OrderPrinted, Fits, SheetLoaded};
 
 use crate::lines::{PRINTED_LINE, put_refusal, put_tags};
 use colour::{Colour, Region, Settings};
-use listing::list::{Listed, list};
-use samples::answers::report_of;
+use listing::list::list;
+use samples::answers::Stop;
 use samples::clear::clear;
 use samples::load::load;
 
@@ -43,29 +44,27 @@ fn put_order(samples: &[u32], octants: &[u32], text: &mut [u8]) -> usize
     ensures { OrderPrinted (tables_read samples octants) text.old text.new result }
 {
     let mut tags = [0u32; 512];
-    match list(
+    // There is room for the tags of all rows, so that none is refused.
+    let Ok(counts) = list(
         samples,
         octants,
         Region::Box(grey(0), grey(65535)),
         &mut tags,
-    ) {
-        Listed::All(listed, entered, measured) => {
-            let lines = listed as usize;
-            put_tags(text, &tags[..lines]);
-            PRINTED_LINE * lines
-        }
-        Listed::Refused(_) => 0,
-    }
+    ) else {
+        return 0;
+    };
+    let lines = counts.listed as usize;
+    put_tags(text, &tags[..lines]);
+    PRINTED_LINE * lines
 }
 
-// Loads a sheet into an empty set, and gives the number.
-fn load_sheet(samples: &mut [u32], octants: &mut [u32], sheet: &[u8]) -> u32
+// Loads a sheet into an empty set.
+fn load_sheet(samples: &mut [u32], octants: &mut [u32], sheet: &[u8]) -> Result<u32, Stop>
     requires { (length samples.old ≡ 2562) × (length octants.old ≡ 16380) }
-    ensures { SheetLoaded sheet.now result (tables_left samples octants) }
+    ensures { SheetLoaded sheet.now (loaded_number result) (tables_left samples octants) }
 {
-    clear(samples, octants, Settings { bucket: BUCKET });
-    let report = report_of(load(samples, octants, sheet));
-    report.number
+    let _ = clear(samples, octants, Settings { bucket: BUCKET });
+    load(samples, octants, sheet)
 }
 
 // Writes what walklist prints over the first bytes of a text, and says how many they are: an exported call. Input past 32,768 bytes is
@@ -76,10 +75,11 @@ pub fn print(input: &[u8], text: &mut [u8; TEXT_LENGTH]) -> usize
     let mut samples = [0u32; SAMPLE_WORDS];
     let mut octants = [0u32; OCTANT_WORDS];
     let end = INPUT_LENGTH.min(input.len());
-    let number = load_sheet(&mut samples, &mut octants, &input[..end]);
-    if number != 0 {
-        put_refusal(text, number);
-        return PRINTED_LINE;
+    match load_sheet(&mut samples, &mut octants, &input[..end]) {
+        Ok(_) => put_order(&samples, &octants, text),
+        Err(stop) => {
+            put_refusal(text, u32::from(stop.refusal));
+            PRINTED_LINE
+        }
     }
-    put_order(&samples, &octants, text)
 }

@@ -26,8 +26,8 @@ use Rattle.model.specs.Sound.{Shows}
 use Rattle.model.specs.Walklist.{walklist_start}
 use Rattle.model.proofs.Tables.Unique.{samples_length, current_complete}
 use Rattle.model.proofs.Tree.Order.{order_length}
-use Rattle.listing.specs.declared.list.Listed.{Listed}
-use Rattle.listing.specs.declared.list.Listed.TheVariants as L
+use Rattle.std.specs.Prelude.{Result, Ok, Err}
+use Rattle.listing.specs.declared.list.Counts.{Counts}
 use Rattle.listing.specs.Pass.{Visit, pass_of}
 use Rattle.listing.specs.Answers.{listed_answer, counts_of, pass_answer}
 use Rattle.listing.proofs.Laws.Sound.Passed.{pass_agrees}
@@ -86,26 +86,26 @@ module _ (t : Tables) (fits : Fits t) (R : Region) (all : R ≡ everything) (len
       omega (arith, ap length (tags_are m shows), length-map (order m.set) tag_of, order_length m.set, shows.valid.rows_fit, samples_length current current_complete m t shows, fits.1)
 
   -- All were listed, question 13 being yes.
-  answer : (r : Listed) → listed_answer r left ≡ pass_answer v lent
+  answer : (r : Result Counts Refusal) → listed_answer r left ≡ pass_answer v lent
       → listed_answer r left ≡ list_answer 0 (length v.tags) (counts_of v) (v.tags ++ drop (length v.tags) lent)
   answer r e = e ∙ pass_fits v lent (omega (arith, tags_few))
 
-  pub listed_ordered : (r : Listed) → listed_answer r left ≡ pass_answer v lent → (n x y : ℕ) → r ≡ L.All n x y → Ordered t left n
+  pub listed_ordered : (r : Result Counts Refusal) → listed_answer r left ≡ pass_answer v lent → (c : Counts) → r ≡ Ok c → Ordered t left c.listed
   unfolding listed_answer list_answer
-  listed_ordered r e n x y is =
-      let a = ap (λ (q : Listed). listed_answer q left) (sym is) ∙ answer r e in
-      let size : n ≡ length v.tags = ap (λ (z : Answer). z.listed) a in
+  listed_ordered r e c is =
+      let a = ap (λ (q : Result Counts Refusal). listed_answer q left) (sym is) ∙ answer r e in
+      let size : c.listed ≡ length v.tags = ap (λ (z : Answer). z.listed) a in
       let words : left ≡ v.tags ++ drop (length v.tags) lent = ap (λ (z : Answer). z.listing) a in
-      let within : n ≤ length left = omega (arith, size, ap length words, length-append v.tags (drop (length v.tags) lent)) in
+      let within : c.listed ≤ length left = omega (arith, size, ap length words, length-append v.tags (drop (length v.tags) lent)) in
       record {
         within = within;
         few = omega (arith, size, tags_few);
-        size = length-take-le n left within;
-        are = λ m shows. ap (take n) words ∙ take_at v.tags (drop (length v.tags) lent) n (sym size) ∙ tags_are m shows;
+        size = length-take-le c.listed left within;
+        are = λ m shows. ap (take c.listed) words ∙ take_at v.tags (drop (length v.tags) lent) c.listed (sym size) ∙ tags_are m shows;
       }
 
-  pub never_refused : (r : Listed) → listed_answer r left ≡ pass_answer v lent → (q : Refusal) → r ≡ L.Refused q → ⊥
+  pub never_refused : (r : Result Counts Refusal) → listed_answer r left ≡ pass_answer v lent → (q : Refusal) → r ≡ Err q → ⊥
   unfolding listed_answer list_answer plain nearest_answer
   never_refused r e q is =
-      let a = ap (λ (q : Listed). listed_answer q left) (sym is) ∙ answer r e in
+      let a = ap (λ (q : Result Counts Refusal). listed_answer q left) (sym is) ∙ answer r e in
       refusal_numbered q (ap (λ (z : Answer). z.number) a)

@@ -2,14 +2,13 @@
 use Prim.Native.Nat.{ℕ, ◌≤◌}
 use mathlib.Core.Bool.{false}
 use mathlib.Core.List.{List, []}
-use mathlib.Core.Option.{Option, none, some}
+use Rattle.std.specs.Prelude.{Option, None, Some, is_some}
 use mathlib.Core.Path.{◌≡◌, refl, ap, ◌∙◌}
 use native.Mathlib.Omega.{arith}
 use lib.ListN.{length, take}
 use lib.Seq.{length-take-le}
 use Rattle.colour.specs.Question.{first_no}
 use Rattle.colour.proofs.Laws.Questions.{first_no_lem}
-use Rattle.sheet.specs.Column.{present}
 use Rattle.sheet.specs.Sheet.{line_count}
 use Rattle.sheet.proofs.Laws.Numbers.{line_start_is}
 use Rattle.sheet.proofs.Laws.Reading.Header.{formed}
@@ -25,25 +24,24 @@ unfolding computes
 start_rows = (refl, refl)
 
 -- No sheet has 32,768 bytes: 15 + 62 × n is another number, whatever n is.
-no_sheet : (s : List ℕ) → length s ≡ 32768 → line_count s ≡ none
+no_sheet : (s : List ℕ) → length s ≡ 32768 → line_count s ≡ None
 no_sheet s e = go (line_count s) refl
   where
-    go : (o : Option ℕ) → line_count s ≡ o → line_count s ≡ none
-    go none is = is
-    go (some n) is = absurd (omega (arith, e, (formed s n is).whole, line_start_is n))
+    go : (o : Option ℕ) → line_count s ≡ o → line_count s ≡ None
+    go None is = is
+    go (Some n) is = absurd (omega (arith, e, (formed s n is).whole, line_start_is n))
 
 -- "What follows is cut off, so number 11 results."
 module _ (input : List ℕ) (long : 32768 ≤ length input) where
   abbrev c : Call
   c = Change (Load (take 32768 input))
 
-  no_lines : present (line_count (take 32768 input)) ≡ false
-  unfolding present
-  no_lines = ap (λ (o : Option ℕ). present o) (no_sheet (take 32768 input) (length-take-le 32768 input long))
+  no_lines : is_some (line_count (take 32768 input)) ≡ false
+  no_lines = ap (λ (o : Option ℕ). is_some o) (no_sheet (take 32768 input) (length-take-le 32768 input long))
 
   gives_11 : first_no (questions walklist_start c) ≡ 11
   unfolding questions
-  gives_11 = first_no_lem 11 (present (line_count (take 32768 input))) [] no_lines
+  gives_11 = first_no_lem 11 (is_some (line_count (take 32768 input))) [] no_lines
 
   pub cut_refused : walklist_prints input ≡ refused_line 11
   unfolding walklist_prints printed_after refusal plain nearest_answer lent

@@ -1,4 +1,5 @@
 -- `print::load_sheet`: the clear starts the machine, and the load is a step of it.
+use mathlib.Core.Path.{refl}
 use Rattle.model.specs.Machine.{load_answer}
 use Rattle.samples.specs.Answers.{loaded_answer}
 use Rattle.tag_list.proofs.Laws.Loading.{sheet_loaded}
@@ -9,4 +10,4 @@ unfolding loaded_answer load_answer
 returns c =
     sheet_loaded c.args.samples.now c.args.octants.now c.requires.0 c.requires.1 c.args.sheet.now _ _ _ _ _
     c.clear.ensures
-    c.load.ensures c.report_of-report.ensures.number
+    c.load.ensures refl

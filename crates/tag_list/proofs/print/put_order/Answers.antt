@@ -2,7 +2,6 @@
 use mathlib.Core.Path.{refl, sym, ap₂}
 use native.Mathlib.Omega.{arith}
 use Rattle.colour.specs.declared.Region.TheVariants.{Box}
-use Rattle.colour.specs.Region.{Fair}
 use Rattle.model.specs.Tables.{pair}
 use Rattle.model.specs.Sound.{long_enough}
 use Rattle.model.proofs.Machine.Day.{sound_long}
@@ -11,35 +10,35 @@ use Rattle.tag_list.specs.Printed.{Fits}
 use Rattle.tag_list.proofs.Laws.Order.{Ordered, listed_ordered, never_refused}
 use Rattle.tag_list.proofs.Laws.Printing.{order_printed}
 use Rattle.tag_list.proofs.print.put_order.Goals as goal
-use Rattle.tag_list.proofs.print.put_order.Goals.{In-All}
+use Rattle.tag_list.proofs.print.put_order.Goals.{In-Ok}
 
 pub list-requires : goal.list-requires
-unfolding Fits Fair long_enough
+unfolding Fits long_enough
 list-requires c =
     let a = c.args in
     let sound = c.requires.0.0 in
-    (tt, both_long a.samples.now a.octants.now (sound_long sound.machine (pair a.samples.now a.octants.now) sound.shows))
+    both_long a.samples.now a.octants.now (sound_long sound.machine (pair a.samples.now a.octants.now) sound.shows)
 
 -- The listing after it.
-ordered : (c : In-All) → Ordered (pair c.args.samples.now c.args.octants.now) c.list.new.listing c.in-All.listed
+ordered : (c : In-Ok) → Ordered (pair c.args.samples.now c.args.octants.now) c.list.new.listing c.in-Ok.counts.listed
 ordered c =
-    listed_ordered (pair c.args.samples.now c.args.octants.now) c.requires.0 _ (ap₂ Box c.grey.ensures c.grey-2.ensures) _ _ refl c.list.result c.list.ensures _ _ _ c.in-All.is
+    listed_ordered (pair c.args.samples.now c.args.octants.now) c.requires.0 _ (ap₂ Box c.grey.ensures c.grey-2.ensures) _ _ refl c.list.result c.list.ensures _ c.in-Ok.is
 
 pub slice_bounds-tags-end : goal.slice_bounds-tags-end
-slice_bounds-tags-end c = (ordered (goal.at.slice_bounds-tags-end c).In-All).within
+slice_bounds-tags-end c = (ordered (goal.at.slice_bounds-tags-end c).In-Ok).within
 
 pub slice_bounds-put_tags-end : goal.slice_bounds-put_tags-end
-slice_bounds-put_tags-end c = sym (ordered (goal.at.slice_bounds-put_tags-end c).In-All).size
+slice_bounds-put_tags-end c = sym (ordered (goal.at.slice_bounds-put_tags-end c).In-Ok).size
 
 pub put_tags-requires : goal.put_tags-requires
 put_tags-requires c =
-    let o = ordered (goal.at.put_tags-requires c).In-All in
+    let o = ordered (goal.at.put_tags-requires c).In-Ok in
     omega (arith, o.size, o.few, c.requires.1)
 
-pub returns-in-All : goal.returns-in-All
-returns-in-All c = order_printed _ _ _ _ _ (ordered (goal.at.returns-in-All c).In-All) c.put_tags.ensures
+pub returns : goal.returns
+returns c = order_printed _ _ _ _ _ (ordered (goal.at.returns c).In-Ok) c.put_tags.ensures
 
-pub returns-in-Refused : goal.returns-in-Refused
+pub returns-in_default : goal.returns-in_default
 unfolding Fits
-returns-in-Refused c =
-    absurd (never_refused (pair c.args.samples.now c.args.octants.now) c.requires.0 _ (ap₂ Box c.grey.ensures c.grey-2.ensures) _ _ refl c.list.result c.list.ensures _ c.in-Refused.is)
+returns-in_default c =
+    absurd (never_refused (pair c.args.samples.now c.args.octants.now) c.requires.0 _ (ap₂ Box c.grey.ensures c.grey-2.ensures) _ _ refl c.list.result c.list.ensures _ c.in_default.is)
