@@ -12,6 +12,7 @@ use sheet::text::put_left;
 pub const PRINTED_LINE: usize = 11;
 
 // Writes a number into columns of a text, and a newline after it.
+#[tactic(auto, unfolding(sheet::specs::Column::newline), using(crate::proofs::Laws::Lines::number_line_put))]
 fn put_number_line(text: &mut [u8], columns: Columns, n: u32)
     requires { columns.start + columns.width + 1 ≤ length text.old }
     ensures { text.new ≡ put_at columns.start (column_of columns.width n ++ (newline ∷ [])) text.old }
