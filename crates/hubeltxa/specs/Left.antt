@@ -1,9 +1,10 @@
 -- Records of document 01 from the flat numbers, floats and words of a C call: its arguments, and what it leaves.
-use Rattle.std.specs.Prelude.{ℕ, ◌≤◌, Bool, List, ◌≡◌, eqb, Float}
+use Rattle.std.specs.Prelude.{Result, ℕ, ◌≤◌, Bool, List, ◌≡◌, eqb, Float}
 use Rattle.colour.specs.Channels.{Colour}
 use Rattle.colour.specs.Channels.{PanelColour}
 use Rattle.colour.specs.declared.Sample.{Sample}
 use Rattle.colour.specs.Panel.{CodesAnswer, FloatsAnswer}
+use Rattle.colour.specs.declared.refusal.Refusal.{Refusal}
 use Rattle.query.specs.declared.answers.Reply.{Reply}
 use Rattle.query.specs.Answers.{reply_answer}
 use Rattle.sheet.specs.declared.lookup.Part.{Part}
@@ -49,14 +50,14 @@ abbrev pub near_left : ℕ → ℕ → ℕ → ℕ → List ℕ → Answer
 near_left n found tag distance left = nearest_answer n (is_yes found) tag distance left
 
 -- A number and three words that say what a ball or a box answers, whatever its listing.
-pub record Told (a : Reply) (number listed entered measured : ℕ) : Type 0 where
+pub record Told (a : Result Reply Refusal) (number listed entered measured : ℕ) : Type 0 where
   pub number_is : (left : List ℕ) → number ≡ (reply_answer a left).number
   pub listed_is : (left : List ℕ) → listed ≡ (reply_answer a left).listed
   pub entered_is : (left : List ℕ) → entered ≡ (reply_answer a left).entered
   pub measured_is : (left : List ℕ) → measured ≡ (reply_answer a left).measured
 
 -- A number and three words that say what a nearest query answers.
-pub record ToldNear (a : Reply) (number found tag distance : ℕ) : Type 0 where
+pub record ToldNear (a : Result Reply Refusal) (number found tag distance : ℕ) : Type 0 where
   pub number_is : (left : List ℕ) → number ≡ (reply_answer a left).number
   pub found_is : (left : List ℕ) → is_yes found ≡ (reply_answer a left).found
   pub tag_is : (left : List ℕ) → tag ≡ (reply_answer a left).tag

@@ -12,11 +12,13 @@ ghost use Rattle.query.specs.Answers.{AskMeets, Bounds};
 ghost use Rattle.hubeltxa.specs.Left.{colour_of, panel_colour_of, sample_of, codes_left, floats_left, line_left, part_left};
 ghost use Rattle.hubeltxa.specs.Left.{list_left, is_yes, near_left, Told, ToldNear};
 
-use colour::panel::{Codes, Floats};
-use colour::{Colour, PanelColour, Query, Sample, Settings};
+use colour::refusal::{Refusal, number_of};
+use colour::{Codes, Colour, PanelColour, Query, Sample, Settings};
 use query::answers::Reply;
+use samples::answers::{lines_taken, load_number};
 
 // Floats to codes.
+#[tactic(auto, unfolding(colour::specs::Panel::codes_answer, colour::specs::Colour::black, colour::specs::Colour::colour_by))]
 #[unsafe(no_mangle)]
 pub extern "C" fn hbx_codes(
     red: f32,
@@ -29,23 +31,24 @@ pub extern "C" fn hbx_codes(
     ensures { codes_left result red_code.new green_code.new blue_code.new
         ≡ floats_to_codes (panel_colour_of red green blue) }
 {
-    match colour::panel::codes_of(PanelColour { red, green, blue }) {
-        Codes::Are(c) => {
-            *red_code = c.red;
-            *green_code = c.green;
-            *blue_code = c.blue;
+    match Codes::try_from(PanelColour { red, green, blue }) {
+        Ok(c) => {
+            *red_code = u32::from(c.red);
+            *green_code = u32::from(c.green);
+            *blue_code = u32::from(c.blue);
             0
         }
-        Codes::Refused(refusal) => {
+        Err(refusal) => {
             *red_code = 0;
             *green_code = 0;
             *blue_code = 0;
-            colour::refusal::number_of(refusal)
+            u32::from(refusal)
         }
     }
 }
 
 // Codes to floats.
+#[tactic(auto, unfolding(colour::specs::Panel::floats_answer))]
 #[unsafe(no_mangle)]
 pub extern "C" fn hbx_floats(
     red: u32,
@@ -58,18 +61,18 @@ pub extern "C" fn hbx_floats(
     ensures { floats_left result red_out.new green_out.new blue_out.new
         ≡ codes_to_floats (colour_of red green blue) }
 {
-    match colour::panel::floats_of(Colour { red, green, blue }) {
-        Floats::Are(p) => {
+    match PanelColour::try_from(Colour { red, green, blue }) {
+        Ok(p) => {
             *red_out = p.red;
             *green_out = p.green;
             *blue_out = p.blue;
             0
         }
-        Floats::Refused(refusal) => {
+        Err(refusal) => {
             *red_out = 0.0;
             *green_out = 0.0;
             *blue_out = 0.0;
-            colour::refusal::number_of(refusal)
+            u32::from(refusal)
         }
     }
 }
@@ -85,6 +88,7 @@ fn sample_of(tag: u32, red: u32, green: u32, blue: u32) -> Sample
 }
 
 // Writes a sheet's line.
+#[tactic(auto, unfolding(sheet::specs::Answers::written_answer))]
 #[unsafe(no_mangle)]
 pub extern "C" fn hbx_line(
     tag: u32,
@@ -98,7 +102,7 @@ pub extern "C" fn hbx_line(
         ≡ write_line (sample_of tag red green blue) name.now line.old }
 {
     let sample = sample_of(tag, red, green, blue);
-    sheet::writer::number_of(sheet::writer::write_line(sample, name, line))
+    number_of(sheet::writer::write_line(sample, name, line))
 }
 
 // Looks a name up: where in the sheet it starts, and its length.
@@ -112,16 +116,18 @@ pub extern "C" fn hbx_name(sheet: &[u8], tag: u32, start: &mut usize, length: &m
 }
 
 // Empties the set and sets the bucket size.
+#[tactic(auto, unfolding(samples::specs::Answers::changed_answer))]
 #[unsafe(no_mangle)]
 pub extern "C" fn hbx_clear(samples: &mut [u32], octants: &mut [u32], bucket: u32) -> u32
     ensures { Meets (Clear (record { bucket = bucket })) (tables_lent samples octants)
         (plain result []) (tables_left samples octants) }
 {
     let settings = Settings { bucket };
-    samples::answers::number_of(samples::clear::clear(samples, octants, settings))
+    number_of(samples::clear::clear(samples, octants, settings))
 }
 
 // Adds a sample.
+#[tactic(auto, unfolding(samples::specs::Answers::changed_answer))]
 #[unsafe(no_mangle)]
 pub extern "C" fn hbx_add(
     samples: &mut [u32],
@@ -135,18 +141,20 @@ pub extern "C" fn hbx_add(
         (plain result []) (tables_left samples octants) }
 {
     let sample = sample_of(tag, red, green, blue);
-    samples::answers::number_of(samples::add::add(samples, octants, sample))
+    number_of(samples::add::add(samples, octants, sample))
 }
 
 // Removes the sample with a tag.
+#[tactic(auto, unfolding(samples::specs::Answers::changed_answer))]
 #[unsafe(no_mangle)]
 pub extern "C" fn hbx_remove(samples: &mut [u32], octants: &mut [u32], tag: u32) -> u32
     ensures { Meets (Change (Remove tag)) (tables_lent samples octants) (plain result []) (tables_left samples octants) }
 {
-    samples::answers::number_of(samples::remove::remove(samples, octants, tag))
+    number_of(samples::remove::remove(samples, octants, tag))
 }
 
 // Loads a sheet, and says how many lines were taken.
+#[tactic(auto, unfolding(samples::specs::Answers::loaded_answer))]
 #[unsafe(no_mangle)]
 pub extern "C" fn hbx_load(
     samples: &mut [u32],
@@ -157,23 +165,34 @@ pub extern "C" fn hbx_load(
     ensures { Meets (Change (Load sheet.now)) (tables_lent samples octants)
         (load_answer result taken.new) (tables_left samples octants) }
 {
-    let report = samples::answers::report_of(samples::load::load(samples, octants, sheet));
-    *taken = report.taken;
-    report.number
+    let answer = samples::load::load(samples, octants, sheet);
+    *taken = lines_taken(answer);
+    load_number(answer)
 }
 
 // What a ball or a box answers: the number is returned, and the counts go to the words lent for them.
-fn tell(reply: Reply, listed: &mut u32, entered: &mut u32, measured: &mut u32) -> u32
+#[tactic(auto, unfolding(query::specs::Answers::reply_answer, model::specs::Machine::plain, model::specs::Machine::list_answer, model::specs::Machine::nearest_answer))]
+fn tell(
+    reply: Result<Reply, Refusal>,
+    listed: &mut u32,
+    entered: &mut u32,
+    measured: &mut u32,
+) -> u32
     ensures { Told reply result listed.new entered.new measured.new }
 {
-    let told = query::answers::report_of(reply);
-    *listed = told.listed;
-    *entered = told.entered;
-    *measured = told.measured;
-    told.number
+    *listed = 0;
+    *entered = 0;
+    *measured = 0;
+    if let Ok(Reply::Listed(counts)) = reply {
+        *listed = counts.listed;
+        *entered = counts.entered;
+        *measured = counts.measured;
+    }
+    number_of(reply)
 }
 
 // Lists the samples in a ball, and says how many were listed, entered and measured.
+#[tactic(auto, unfolding(model::specs::Meets::lists), using(crate::proofs::Laws::Told::listed_told))]
 #[unsafe(no_mangle)]
 pub extern "C" fn hbx_ball(
     samples: &[u32],
@@ -199,6 +218,7 @@ pub extern "C" fn hbx_ball(
 }
 
 // Lists the samples in a box, and says the same.
+#[tactic(auto, unfolding(model::specs::Meets::lists), using(crate::proofs::Laws::Told::listed_told))]
 #[unsafe(no_mangle)]
 pub extern "C" fn hbx_box(
     samples: &[u32],
@@ -235,23 +255,25 @@ pub extern "C" fn hbx_box(
     tell(reply, listed, entered, measured)
 }
 
-// Yes or no, as a number.
-fn yes_or_no(yes: bool) -> u32
-    ensures is { is_yes result ≡ yes }
-    ensures bit { result ≤ 1 }
-{
-    if yes { 1 } else { 0 }
-}
-
 // What a nearest query answers: the number is returned, and what was found goes to the words lent for it.
-fn tell_near(reply: Reply, found: &mut u32, tag: &mut u32, distance: &mut u64) -> u32
-    ensures { ToldNear reply result found.new tag.new distance.new }
+#[tactic(auto, unfolding(crate::specs::Left::is_yes, query::specs::Answers::reply_answer, model::specs::Machine::plain, model::specs::Machine::list_answer, model::specs::Machine::nearest_answer))]
+fn tell_near(
+    answer: Result<Reply, Refusal>,
+    found: &mut u32,
+    tag: &mut u32,
+    distance: &mut u64,
+) -> u32
+    ensures { ToldNear answer result found.new tag.new distance.new }
 {
-    let near = query::answers::report_of(reply);
-    *found = yes_or_no(near.found);
-    *tag = near.tag;
-    *distance = near.distance;
-    near.number
+    *found = 0;
+    *tag = 0;
+    *distance = 0;
+    if let Ok(Reply::Nearest(Some(near))) = answer {
+        *found = 1;
+        *tag = near.tag;
+        *distance = near.distance;
+    }
+    number_of(answer)
 }
 
 // Finds the nearest sample within a radius, and says its tag and its squared distance. It is lent no listing, and promises its answer with any.
@@ -280,10 +302,11 @@ pub extern "C" fn hbx_near(
 }
 
 // Whether the tables are those of some set.
+#[tactic(auto, unfolding(crate::specs::Left::is_yes))]
 #[unsafe(no_mangle)]
 pub extern "C" fn hbx_check(samples: &[u32], octants: &[u32]) -> u32
     ensures meets { CheckMeets (tables_read samples octants) (is_yes result) }
     ensures bit { result ≤ 1 }
 {
-    yes_or_no(octree::tables::check(samples, octants))
+    u32::from(octree::tables::check(samples, octants))
 }

@@ -1,28 +1,32 @@
 // Both tables rebuilt from the samples in the first rows: what a build costs by itself, to be measured and compared. Not in the header.
 #![tactic(auto)]
 
+ghost use Rattle.colour.specs.Refusal.{answer_number};
 ghost use Rattle.model.specs.Tables.{tables_lent, tables_left};
-ghost use Rattle.samples.specs.Answers.{changed_number};
 ghost use Rattle.rebuild.specs.Questions.{RebuildMeets};
 
 use colour::Settings;
-use colour::refusal::Refusal;
-use samples::answers::{Changed, number_of};
+use colour::refusal::{Refusal, number_of};
 use samples::rebuild::rebuild;
 use words::layout::{long_enough, sample_rows, settings_fit};
 
 // Questions 1, 3 and 6, and then the rebuild, which asks 4 and 7.
-fn rebuild_tables(samples: &mut [u32], octants: &mut [u32], settings: Settings, n: usize) -> Changed
-    ensures { RebuildMeets settings n (tables_lent samples octants) (changed_number result) (tables_left samples octants) }
+fn rebuild_tables(
+    samples: &mut [u32],
+    octants: &mut [u32],
+    settings: Settings,
+    n: usize,
+) -> Result<(), Refusal>
+    ensures { RebuildMeets settings n (tables_lent samples octants) (answer_number result) (tables_left samples octants) }
 {
     if !long_enough(samples.len(), octants.len()) {
-        return Changed::Refused(Refusal::TooShort);
+        return Err(Refusal::TooShort);
     }
     if !settings_fit(settings) {
-        return Changed::Refused(Refusal::Bucket);
+        return Err(Refusal::Bucket);
     }
     if sample_rows(samples.len()) < n {
-        return Changed::Refused(Refusal::NoRow);
+        return Err(Refusal::NoRow);
     }
     rebuild(samples, octants, settings, n)
 }

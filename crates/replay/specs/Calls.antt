@@ -1,17 +1,20 @@
 -- Calls as values (document 01, "The bin"): the call of the reference machine that a value means, the answer that is given, and the contract of the entry.
-use Rattle.std.specs.Prelude.{ℕ, List, [], ◌≡◌}
+use Rattle.std.specs.Prelude.{ℕ, false, List, [], ◌≡◌}
 use Rattle.std.proofs.Math.Option.{Option, none, some}
 use Rattle.colour.specs.declared.Query.{Query}
 use Rattle.model.specs.Tables.{Tables}
-use Rattle.model.specs.Machine.{Clear, Change, Load, Add, Remove, Ask, Answer}
+use Rattle.model.specs.Machine.{Clear, Change, Load, Add, Remove, Ask, Answer, plain}
 use Rattle.model.specs.Machine as M
 use Rattle.model.specs.Meets.{Meets}
-use Rattle.query.specs.Answers.{AskMeets, Bounds}
+use Rattle.colour.specs.Refusal.{answer_number}
+use Rattle.samples.specs.Answers.{loaded_number, loaded_taken}
+use Rattle.query.specs.Answers.{reply_answer, AskMeets, Bounds}
 use Rattle.replay.specs.declared.calls.Changing.{Changing}
 use Rattle.replay.specs.declared.calls.Changing.TheVariants as G
 use Rattle.replay.specs.declared.calls.Call.{Call}
 use Rattle.replay.specs.declared.calls.Call.TheVariants as C
 use Rattle.replay.specs.declared.calls.Given.{Given}
+use Rattle.replay.specs.declared.calls.Given.TheVariants as V
 
 -- The machine's call that a value means, with the sheet and the listing that are lent beside it.
 unfoldable pub change_meant : Changing → List ℕ → M.Changing
@@ -35,20 +38,22 @@ unfoldable pub listing_of : Option Query → List ℕ → List ℕ
 listing_of none words = []
 listing_of (some q) words = words
 
--- The answer that what was given says, with a listing as it is left.
+-- The answer that what was given says, with a listing as it is left; what a call does not report is 0.
 unfoldable pub answer_of : Given → List ℕ → Answer
-answer_of r listing =
+answer_of (V.Changed a) listing = plain (answer_number a) listing
+answer_of (V.Loaded a) listing =
     record {
-      number = r.number;
-      taken = r.taken;
-      listed = r.listed;
-      entered = r.entered;
-      measured = r.measured;
-      found = r.found;
-      tag = r.tag;
-      distance = r.distance;
+      number = loaded_number a;
+      taken = loaded_taken a;
+      listed = 0;
+      entered = 0;
+      measured = 0;
+      found = false;
+      tag = 0;
+      distance = 0;
       listing = listing;
     }
+answer_of (V.Replied a) listing = reply_answer a listing
 
 -- A call's answer, with the words lent for a listing as they are left.
 unfoldable pub given_answer : Call → Given → List ℕ → Answer

@@ -11,6 +11,8 @@ use Rattle.model.specs.Machine as M
 use Rattle.replay.specs.declared.calls.Changing.TheVariants as G
 use Rattle.replay.specs.declared.calls.Call.{Call}
 use Rattle.replay.specs.declared.calls.Call.TheVariants as C
+use Rattle.replay.specs.declared.script.Kind.{Kind}
+use Rattle.replay.specs.declared.script.Kind.TheVariants as K
 use Rattle.replay.specs.Calls.{meant, query_of}
 use Rattle.replay.specs.Format.{step_width, answer_width, kind_at, bucket_at, tag_at, red_at, green_at, blue_at, sheet_start_at, sheet_length_at, lent_at, low_at, high_at, radius_at}
 
@@ -27,24 +29,26 @@ unfoldable pub sample_said : List ℕ → Sample
 sample_said words =
     record { tag = get_or words tag_at 0; colour = record { red = get_or words red_at 0; green = get_or words green_at 0; blue = get_or words blue_at 0 } }
 
--- The calls that a step chooses from, by their place in this list.
-unfoldable pub first_calls : List ℕ → List Float → List Call
-first_calls words floats =
-    C.Clear (record { bucket = get_or words bucket_at 0 })
-    ∷ C.Change G.Load
-    ∷ C.Change (G.Add (sample_said words))
-    ∷ C.Change (G.Remove (get_or words tag_at 0))
-    ∷ C.Ask (Q.Ball (colour_at floats low_at) (get_or floats radius_at no_float))
-    ∷ C.Ask (Q.Box (colour_at floats low_at) (colour_at floats high_at))
-    ∷ []
+-- The kinds of calls that a step's word chooses from, by their place in this list; any other word chooses a nearest query.
+abbrev pub first_kinds : List Kind
+first_kinds = K.Clear ∷ K.Load ∷ K.Add ∷ K.Remove ∷ K.Ball ∷ K.Box ∷ []
 
--- The call of any other step: a nearest query.
-abbrev pub other_call : List Float → Call
-other_call floats = C.Ask (Q.Nearest (colour_at floats low_at) (get_or floats radius_at no_float))
+unfoldable pub kind_of : ℕ → Kind
+kind_of word = get_or first_kinds word K.Nearest
+
+-- The call of a kind that a step says.
+unfoldable pub call_of_kind : Kind → List ℕ → List Float → Call
+call_of_kind K.Clear words floats = C.Clear (record { bucket = get_or words bucket_at 0 })
+call_of_kind K.Load words floats = C.Change G.Load
+call_of_kind K.Add words floats = C.Change (G.Add (sample_said words))
+call_of_kind K.Remove words floats = C.Change (G.Remove (get_or words tag_at 0))
+call_of_kind K.Ball words floats = C.Ask (Q.Ball (colour_at floats low_at) (get_or floats radius_at no_float))
+call_of_kind K.Box words floats = C.Ask (Q.Box (colour_at floats low_at) (colour_at floats high_at))
+call_of_kind K.Nearest words floats = C.Ask (Q.Nearest (colour_at floats low_at) (get_or floats radius_at no_float))
 
 -- The call that a step says.
 unfoldable pub call_in : List ℕ → List Float → Call
-call_in words floats = get_or (first_calls words floats) (get_or words kind_at 0) (other_call floats)
+call_in words floats = call_of_kind (kind_of (get_or words kind_at 0)) words floats
 
 -- The part of the sheets that a step names by start and length, as far as it is there.
 unfoldable pub sheet_in : List ℕ → List ℕ → List ℕ

@@ -5,7 +5,7 @@ ghost use Rattle.model.specs.Machine.{Change};
 ghost use Rattle.model.specs.Meets.{Meets};
 ghost use Rattle.replay.specs.Calls.{change_meant, answer_of, CallMeets};
 
-use crate::calls::{Call, Changing, Given, of_changed, of_loaded, of_reply};
+use crate::calls::{Call, Changing, Given};
 use query::ask::ask;
 use samples::add::add;
 use samples::clear::clear;
@@ -18,9 +18,9 @@ fn change(samples: &mut [u32], octants: &mut [u32], change: Changing, sheet: &[u
         (answer_of result []) (tables_left samples octants) }
 {
     match change {
-        Changing::Load => of_loaded(load(samples, octants, sheet)),
-        Changing::Add(sample) => of_changed(add(samples, octants, sample)),
-        Changing::Remove(tag) => of_changed(remove(samples, octants, tag)),
+        Changing::Load => Given::Loaded(load(samples, octants, sheet)),
+        Changing::Add(sample) => Given::Changed(add(samples, octants, sample)),
+        Changing::Remove(tag) => Given::Changed(remove(samples, octants, tag)),
     }
 }
 
@@ -36,8 +36,8 @@ pub fn call(
         result listing.new (tables_left samples octants) }
 {
     match call {
-        Call::Clear(settings) => of_changed(clear(samples, octants, settings)),
+        Call::Clear(settings) => Given::Changed(clear(samples, octants, settings)),
         Call::Change(changing) => change(samples, octants, changing, sheet),
-        Call::Ask(query) => of_reply(ask(samples, octants, query, listing)),
+        Call::Ask(query) => Given::Replied(ask(samples, octants, query, listing)),
     }
 }

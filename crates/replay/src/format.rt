@@ -1,5 +1,5 @@
-// The numbers of a script, each once. Words and floats that a call does not use may be any. The kinds of calls stand in `script::call_in` alone, the words of an answer in
-// `replay::put_given`.
+// The numbers of a script, each once. Words and floats that a call does not use may be any. Which word says which call stands in
+// `script::Kind` alone.
 
 // How many words and how many floats a step has: which call it is, eight words of arguments, and a length. A tag has two words.
 pub const STEP: usize = 10;
@@ -37,3 +37,21 @@ pub const LOW: u32 = 0;
 pub const HIGH: u32 = 3;
 
 pub const RADIUS: usize = 3;
+
+// Where an answer's words stand: its number; the lines that a load took; what a ball or a box listed, entered and measured; whether a nearest query found
+// one, and its tag and its d², of two words each.
+pub const NUMBER: usize = 0;
+
+pub const TAKEN: usize = 1;
+
+pub const LISTED: usize = 2;
+
+pub const ENTERED: usize = 3;
+
+pub const MEASURED: usize = 4;
+
+pub const FOUND: usize = 5;
+
+pub const NEAR_TAG: usize = 6;
+
+pub const DISTANCE: usize = 8;

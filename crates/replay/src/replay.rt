@@ -1,5 +1,5 @@
 // The driver: the calls of a script, one after the other, each made by the one entry.
-ghost use Rattle.std.specs.Prelude.{◌≤◌, [], ◌≡◌, length};
+ghost use Rattle.std.specs.Prelude.{◌%◌, ◌/◌, ◌^◌, ◌≤◌, [], ◌∷◌, ◌≡◌, length};
 ghost use Rattle.model.specs.Tables.{tables_lent, tables_left};
 ghost use Rattle.replay.specs.Calls.{answer_of};
 ghost use Rattle.replay.specs.Format.{answer_width};
@@ -8,30 +8,50 @@ ghost use Rattle.replay.specs.Replayed.{Stepped, Replayed};
 
 use crate::call::call;
 use crate::calls::Given;
-use crate::format::{ANSWER, STEP};
+use crate::format::{
+    ANSWER, DISTANCE, ENTERED, FOUND, LISTED, MEASURED, NEAR_TAG, NUMBER, STEP, TAKEN,
+};
 use crate::script::{call_in, lent_to, sheet_in, steps_of};
+use colour::refusal::number_of;
+use query::answers::Reply;
+use samples::answers::{lines_taken, load_number};
 
 // What the upper word of a number of two words counts in.
 const HALF: u64 = 4294967296;
 
-// Writes what a call gave, as the words of an answer.
-fn put_given(given: Given, answers: &mut [u32])
-    requires { answer_width ≤ length answers.old }
-    ensures { answers.new ≡ written_over (answer_words (answer_of given [])) answers.old }
+// A number as two words, the lower first.
+fn halves(n: u64) -> [u32; 2]
+    ensures { result ≡ n % 2 ^ 32 ∷ n / 2 ^ 32 ∷ [] }
 {
-    let tag = given.tag as u64;
-    answers[0] = given.number;
-    answers[1] = given.taken;
-    answers[2] = given.listed;
-    answers[3] = given.entered;
-    answers[4] = given.measured;
-    answers[5] = given.found as u32;
-    answers[6] = (tag % HALF) as u32;
-    answers[7] = (tag / HALF) as u32;
-    answers[8] = (given.distance % HALF) as u32;
-    answers[9] = (given.distance / HALF) as u32;
-    answers[10] = 0;
-    answers[11] = 0;
+    [(n % HALF) as u32, (n / HALF) as u32]
+}
+
+// Writes what a call gave, as the words of an answer. What its call does not report is 0, and so are the two spare words.
+#[tactic(auto, unfolding(crate::specs::Script::answer_words, crate::specs::Script::written_over, crate::specs::Script::flag, crate::specs::Calls::answer_of, query::specs::Answers::reply_answer, model::specs::Machine::plain, model::specs::Machine::list_answer, model::specs::Machine::nearest_answer))]
+fn put_given(given: Given, words: &mut [u32])
+    requires { answer_width ≤ length words.old }
+    ensures { words.new ≡ written_over (answer_words (answer_of given [])) words.old }
+{
+    words[..ANSWER].fill(0);
+    match given {
+        Given::Changed(answer) => words[NUMBER] = number_of(answer),
+        Given::Loaded(answer) => {
+            words[NUMBER] = load_number(answer);
+            words[TAKEN] = lines_taken(answer);
+        }
+        Given::Replied(Ok(Reply::Listed(counts))) => {
+            words[LISTED] = counts.listed;
+            words[ENTERED] = counts.entered;
+            words[MEASURED] = counts.measured;
+        }
+        Given::Replied(Ok(Reply::Nearest(Some(near)))) => {
+            words[FOUND] = 1;
+            [words[NEAR_TAG], words[NEAR_TAG + 1]] = halves(u64::from(near.tag));
+            [words[DISTANCE], words[DISTANCE + 1]] = halves(near.distance);
+        }
+        Given::Replied(Ok(Reply::Nearest(None))) => {}
+        Given::Replied(Err(refusal)) => words[NUMBER] = u32::from(refusal),
+    }
 }
 
 // Makes one step: lends its call the first words of the listings and writes its answer. Says how many words were lent.
@@ -74,8 +94,7 @@ pub extern "C" fn hbx_replay(
 {
     let steps = steps_of(script.len(), floats.len(), answers.len());
     let mut at = 0;
-    let mut i = 0;
-    while i < steps {
+    for i in 0..steps {
         let from = STEP * i;
         let to = ANSWER * i;
         let lent = step(
@@ -88,7 +107,6 @@ pub extern "C" fn hbx_replay(
             &mut answers[to..],
         );
         at += lent;
-        i += 1;
     }
     steps
 }

@@ -1,6 +1,6 @@
 -- A line written from a sample and a name reads back as both, exactly where the sample has codes and the name is good.
 use Prim.Native.Nat.{ℕ, ◌+◌, ◌-◌, ◌^◌, ◌≤◌, ◌<◌}
-use mathlib.Core.Bool.{Bool, true, false, ◌&&◌, and-false, and-eq-true_iff}
+use mathlib.Core.Bool.{Bool, true, false, ◌&&◌, and-eq-true_iff}
 use mathlib.Core.List.{List, ◌++◌}
 use Rattle.std.specs.Prelude.{None, Some, Result, Ok, Err}
 use mathlib.Core.Path.{◌≡◌, refl, sym, ap, ◌∙◌}
@@ -9,13 +9,12 @@ use lib.Dec.{eqb}
 use lib.ListN.{length, take, drop}
 use lib.Pointwise.{pointwise}
 use lib.Seq.{take_all}
-use borrow.Author.Tests.{eq-eqb, ne_eqb, lt-ltb, le-leb}
+use borrow.Author.Tests.{eq-eqb, lt-ltb, le-leb}
 use borrow.Rule.Slice.PartMut.{put_mid}
 use Rattle.colour.specs.declared.Sample.{Sample}
 use Rattle.colour.specs.declared.refusal.Refusal.{Refusal}
-use Rattle.colour.specs.Colour.{Channel, code_in, each, is_tag, codes_fit}
+use Rattle.colour.specs.Colour.{is_tag, codes_fit}
 use Rattle.colour.specs.Question.{first_no}
-use Rattle.colour.proofs.Laws.Channels.{each_every, each_no}
 use Rattle.sheet.specs.declared.line.Line.{Line}
 use Rattle.sheet.specs.Answers.{line_answer, written_answer}
 use Rattle.colour.specs.Refusal.{answer_number}
@@ -25,32 +24,12 @@ use Rattle.sheet.proofs.Laws.Parts.{part_tail, put_tail}
 use Rattle.sheet.proofs.Laws.Text.{same_pointwise, same_self}
 use Rattle.sheet.proofs.Laws.RoundTrip.Lines.{written_reads, written_name}
 use Rattle.sheet.proofs.Laws.Writing.Lines.{accepted}
-use Rattle.sheet_trip.specs.Same.{same_sample}
 
--- Two samples, compared in turn: one number that differs settles it, and where the others agree the last does.
-module _ (a b : Sample) where
-  pub tags_differ : (a.tag ≡ b.tag → ⊥) → false ≡ same_sample a b
-  unfolding same_sample
-  tags_differ n = rw (ne_eqb a.tag b.tag n)
-
-  pub codes_differ : (h : Channel) → (code_in h a.colour ≡ code_in h b.colour → ⊥) → false ≡ same_sample a b
-  unfolding same_sample
-  codes_differ h n =
-      let no = each_no (λ h. eqb (code_in h a.colour) (code_in h b.colour)) h (ne_eqb _ _ n) in
-      sym (ap (λ (t : Bool). eqb a.tag b.tag && t) no ∙ and-false (eqb a.tag b.tag))
-
-  pub last_code : a.tag ≡ b.tag → a.colour.red ≡ b.colour.red → a.colour.green ≡ b.colour.green
-      → eqb a.colour.blue b.colour.blue ≡ same_sample a b
-  unfolding same_sample each code_in
-  last_code t r g =
-      rw (eq-eqb a.tag b.tag t, eq-eqb a.colour.red b.colour.red r, eq-eqb a.colour.green b.colour.green g)
-
--- A sample is the same as itself.
-sample_same : (s : Sample) → same_sample s s ≡ true
-unfolding same_sample
-sample_same s =
-    (and-eq-true_iff _ _).1
-    (eq-eqb s.tag s.tag refl, (each_every (λ h. eqb (code_in h s.colour) (code_in h s.colour))).1 (λ h. eq-eqb (code_in h s.colour) _ refl))
+-- Samples that are the same are found equal, number by number.
+pub same_equal : (a b : Sample) → a ≡ b
+    → (eqb a.tag b.tag && (eqb a.colour.red b.colour.red && (eqb a.colour.green b.colour.green && eqb a.colour.blue b.colour.blue))) ≡ true
+same_equal a b e =
+    rw e (rw (eq-eqb b.tag b.tag refl, eq-eqb b.colour.red b.colour.red refl, eq-eqb b.colour.green b.colour.green refl, eq-eqb b.colour.blue b.colour.blue refl))
 
 -- Two tests that do not both say yes.
 both : (p q : Bool) → (p ≡ true → q ≡ true → ⊥) → false ≡ (p && q)
@@ -99,7 +78,7 @@ module _ (s : Sample) (name lent left : List ℕ) (w : Result (Unit {0}) Refusal
 
 -- What is read from it comes back: the sample is the same, and the name is within the line and is the same.
 pub record Back (s : Sample) (name left : List ℕ) (l : Line) : Type 0 where
-  pub sample : same_sample l.sample s ≡ true
+  pub sample : l.sample ≡ s
   pub within : name_start + l.name_length ≤ line_length
   pub bytes : pointwise eqb (take (name_start + l.name_length - name_start) (drop name_start left)) name ≡ (codes_fit s.colour && name_good name)
 
@@ -126,7 +105,7 @@ module _ (s : Sample) (name left : List ℕ) (stands : Stands s name left) where
         let size : name_start + l.name_length - name_start ≡ length name = omega (arith, length_is) in
         let is : take (name_start + l.name_length - name_start) (drop name_start left) ≡ name = rw size stands.bytes in
         record {
-          sample = rw line_is (sample_same s);
+          sample = ap (λ (l : Line). l.sample) line_is;
           within = omega (arith, length_is, (name_good_lem name stands.named).fits);
           bytes =
               ap (λ (t : List ℕ). pointwise eqb t name) is ∙ same_pointwise name name ∙ same_self name ∙ sym ((and-eq-true_iff _ _).1 (stands.codes, stands.named));

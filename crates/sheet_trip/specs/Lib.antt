@@ -1,2 +1,2 @@
--- What the round trip compares.
-pub mod Same
+-- What the round trip tries.
+pub mod Grey

@@ -4,29 +4,13 @@
 ghost use Rattle.std.specs.Prelude.{◌&&◌, ◌++◌, ◌≡◌, ◌≤◌, length, take, drop};
 ghost use Rattle.colour.specs.Colour.{codes_fit};
 ghost use Rattle.sheet.specs.Line.{name_good, write_line};
-ghost use Rattle.sheet_trip.specs.Same.{same_sample, grey_of};
+ghost use Rattle.sheet_trip.specs.Grey.{grey_of};
 
 use colour::{Colour, Sample};
 use sheet::line::{LINE_LENGTH, NAME_START, read_line};
 use sheet::lookup::name_of;
 use sheet::writer::write_line;
 use std::io::Print;
-
-// Whether two samples are the same.
-fn same_sample(a: Sample, b: Sample) -> bool
-    ensures { result ≡ same_sample a b }
-{
-    if a.tag != b.tag {
-        return false;
-    }
-    if a.colour.red != b.colour.red {
-        return false;
-    }
-    if a.colour.green != b.colour.green {
-        return false;
-    }
-    a.colour.blue == b.colour.blue
-}
 
 // Whether a line written from a sample and a name reads back as both. It does exactly where the sample has codes and the name
 // is good; for no other is a line written.
@@ -40,14 +24,11 @@ fn comes_back(sample: Sample, name: &[u8]) -> bool
     let Ok(read) = read_line(&line) else {
         return false;
     };
-    if !same_sample(read.sample, sample) {
-        return false;
-    }
     let end = NAME_START + read.name_length;
-    &line[NAME_START..end] == name
+    read.sample == sample && &line[NAME_START..end] == name
 }
 
-// A sample with one code in each channel.
+// A sample with one code in each channel. Only evidence makes such samples, so the library has no function for it.
 fn grey(tag: u32, code: u32) -> Sample
     ensures { result ≡ grey_of tag code }
 {
@@ -68,6 +49,7 @@ fn print_name(rt: &HostRuntime, sheet: &[u8], tag: u32) {
 }
 
 // Writes a line into a sheet, from byte `at` on.
+#[tactic(auto, using(crate::proofs::Trip::line_put))]
 fn put_line_at(sheet: &mut [u8], at: usize, sample: Sample, name: &[u8])
     requires { at ≤ length sheet.old }
     ensures { sheet.new
@@ -88,6 +70,7 @@ fn print_names(rt: &HostRuntime) {
     print_name(rt, &sheet, 9);
 }
 
+#[tactic(auto, unfolding(sheet::specs::Computes::sheet_computes))]
 fn main(rt: HostRuntime) {
     check::expect(comes_back(grey(0, 0), b"A"));
     check::expect(comes_back(grey(4294967295, 65535), b"A-reel-name-of-thirty-two-bytes!"));

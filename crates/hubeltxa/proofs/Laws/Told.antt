@@ -1,41 +1,23 @@
 -- What a call's enum says, as the number that is returned and the words that are lent for the rest.
 use Prim.Native.Nat.{ℕ}
 use mathlib.Core.Bool.{Bool, true, false}
-use mathlib.Core.List.{List, []}
-use mathlib.Core.Path.{◌≡◌, sym, ap, ap₂, ◌∙◌, subst}
+use mathlib.Core.List.{List}
+use mathlib.Core.Path.{◌≡◌, sym, ap₂, ◌∙◌, subst}
 use Rattle.colour.specs.declared.Query.{Query}
-use Rattle.colour.specs.declared.Sample.{Sample}
 use Rattle.model.specs.Tables.{Tables}
 use Rattle.model.specs.Queries.{Counts}
-use Rattle.model.specs.Machine.{Call, Change, Add, Answer, plain, load_answer, list_answer, nearest_answer}
-use Rattle.model.specs.Meets.{Meets, lists, own_reports}
+use Rattle.model.specs.Machine.{Answer, list_answer, nearest_answer}
+use Rattle.model.specs.Meets.{lists, own_reports}
 use Rattle.query.specs.declared.answers.Reply.{Reply}
 use Rattle.query.specs.Answers.{reply_answer, AskMeets, Bounds}
 use Rattle.query.proofs.Laws.Answered.{own_reports_lem}
 use Rattle.query.proofs.Laws.Asked.{reply_listing}
 use Rattle.hubeltxa.specs.Left.{list_left, near_left, Told, ToldNear}
-use Rattle.samples.specs.declared.answers.Changed.{Changed}
-use Rattle.samples.specs.declared.answers.Loaded.{Loaded}
-use Rattle.samples.specs.Answers.{changed_number, changed_answer, loaded_number, loaded_taken, loaded_answer}
-
-module _ (c : Call) (t t' : Tables) where
-  -- A clear, an add or a remove gives back its number.
-  pub changed_told : (a : Changed) (r : ℕ) → r ≡ changed_number a → Meets c t (changed_answer a) t' → Meets c t (plain r []) t'
-  unfolding changed_answer
-  changed_told a r e told = subst (λ (x : Answer). Meets c t x t') (ap (λ (n : ℕ). plain n []) (sym e)) told
-
-  -- A load also how many lines were taken.
-  pub loaded_told : (a : Loaded) (r taken : ℕ) → r ≡ loaded_number a → taken ≡ loaded_taken a → Meets c t (loaded_answer a) t'
-      → Meets c t (load_answer r taken) t'
-  unfolding loaded_answer
-  loaded_told a r taken d e told = subst (λ (x : Answer). Meets c t x t') (ap₂ load_answer (sym d) (sym e)) told
-
--- The sample that is added, put together from four numbers.
-pub add_told : (s s' : Sample) (t t' : Tables) (a : Answer) → s ≡ s' → Meets (Change (Add s)) t a t' → Meets (Change (Add s')) t a t'
-add_told s s' t t' a e told = subst (λ (x : Sample). Meets (Change (Add x)) t a t') e told
+use Rattle.std.specs.Prelude.{Result}
+use Rattle.colour.specs.declared.refusal.Refusal.{Refusal}
 
 -- What a ball or a box gives back is what it answers.
-pub listed_told : (q : Query) (l : List ℕ) (t : Tables) → lists q ≡ true → (a : Reply) (n listed entered measured : ℕ) (left : List ℕ)
+pub listed_told : (q : Query) (l : List ℕ) (t : Tables) → lists q ≡ true → (a : Result Reply Refusal) (n listed entered measured : ℕ) (left : List ℕ)
     → Told a n listed entered measured → AskMeets q l t (reply_answer a left)
     → reply_answer a left ≡ list_left n listed entered measured left
 unfolding own_reports
@@ -51,7 +33,7 @@ listed_told q l t is a n listed entered measured left d told =
     ∙ sym own)
 
 -- What a nearest query gives back, with any listing.
-pub near_told : (q : Query) (t : Tables) → lists q ≡ false → (a : Reply) (n found tag distance : ℕ) → ToldNear a n found tag distance
+pub near_told : (q : Query) (t : Tables) → lists q ≡ false → (a : Result Reply Refusal) (n found tag distance : ℕ) → ToldNear a n found tag distance
     → ((l : List ℕ) → AskMeets q l t (reply_answer a l)) → (l : List ℕ) → reply_answer a l ≡ near_left n found tag distance l
 unfolding own_reports
 near_told q t is a n found tag distance d told l =

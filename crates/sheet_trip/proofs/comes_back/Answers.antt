@@ -6,7 +6,7 @@ use Rattle.sheet.specs.Answers.{line_answer}
 use Rattle.colour.specs.Refusal.{answer_number}
 use Rattle.sheet.specs.Computes.{sheet_numbers}
 use Rattle.sheet.proofs.Laws.Writing.Lines.{refused}
-use Rattle.sheet_trip.proofs.Trip.{Stands, Back, none_written, line_written, never_refused, reads_back}
+use Rattle.sheet_trip.proofs.Trip.{Stands, Back, same_equal, none_written, line_written, never_refused, reads_back}
 use Rattle.sheet_trip.proofs.comes_back.Goals as goal
 use Rattle.sheet_trip.proofs.comes_back.Goals.{In-Ok-read_line, In-Ok}
 
@@ -33,10 +33,6 @@ pub returns-in_default-read_line : goal.returns-in_default-read_line
 returns-in_default-read_line c =
     absurd (never_refused _ _ _ (stands (goal.at.returns-in_default-read_line c).In-Ok) _ (ap line_answer (sym c.in_default-read_line.is) ∙ c.read_line.ensures))
 
-pub returns-then-not-same_sample : goal.returns-then-not-same_sample
-returns-then-not-same_sample c =
-    absurd (true≢false (sym (c.same_sample.ensures ∙ (back (goal.at.returns-then-not-same_sample c).In-Ok-read_line (stands (goal.at.returns-then-not-same_sample c).In-Ok)).sample) ∙ c.if-not-same_sample.true))
-
 pub overflow_add-end : goal.overflow_add-end
 unfolding sheet_numbers
 overflow_add-end c =
@@ -47,7 +43,13 @@ unfolding sheet_numbers
 slice_bounds-eq-end c =
     omega (arith, (back (goal.at.slice_bounds-eq-end c).In-Ok-read_line (stands (goal.at.slice_bounds-eq-end c).In-Ok)).within, c.write_line.auto.line)
 
-pub returns : goal.returns
+-- The samples are the same.
+pub returns-else-eq : goal.returns-else-eq
+returns-else-eq c =
+    let b = back (goal.at.returns-else-eq c).In-Ok-read_line (stands (goal.at.returns-else-eq c).In-Ok) in
+    absurd (true≢false (sym (c.eq.ensures ∙ same_equal _ _ b.sample) ∙ c.if-eq.false))
+
+pub returns-then-eq : goal.returns-then-eq
 unfolding sheet_numbers
-returns c =
-    c.eq.ensures ∙ (back (goal.at.returns c).In-Ok-read_line (stands (goal.at.returns c).In-Ok)).bytes
+returns-then-eq c =
+    c.eq-then-eq.ensures ∙ (back (goal.at.returns-then-eq c).In-Ok-read_line (stands (goal.at.returns-then-eq c).In-Ok)).bytes

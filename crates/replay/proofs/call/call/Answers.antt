@@ -5,7 +5,7 @@ use Rattle.replay.proofs.call.call.Goals as goal
 pub returns-in-Clear : goal.returns-in-Clear
 returns-in-Clear c =
     rw c.in-Clear.is
-    (clear_meets _ _ _ _ _ _ c.of_changed.ensures _ c.clear.ensures)
+    (clear_meets _ _ _ _ _ _ c.clear.ensures)
 
 pub returns-in-Change : goal.returns-in-Change
 returns-in-Change c =
@@ -14,6 +14,5 @@ returns-in-Change c =
 
 pub returns-in-Ask : goal.returns-in-Ask
 returns-in-Ask c =
-    let a = c.ask in
     rw c.in-Ask.is
-    (ask_meets _ _ _ _ _ _ (c.of_reply.ensures _) _ a.ensures.meets a.ensures.bounds)
+    (ask_meets _ _ _ _ _ _ c.ask.ensures.meets c.ask.ensures.bounds)

@@ -35,7 +35,7 @@ room c =
       in_words = omega arith;
       in_floats = omega arith;
       in_answers = omega arith;
-      in_listings = within _ _ _ _ _ _ _ _ l.5;
+      in_listings = within _ _ _ _ _ _ _ _ l.4;
       few_words = good.0.1;
       few_floats = good.1.0.1;
       few_answers = omega (arith, l.3, good.1.1.1.1.0.1);
@@ -44,7 +44,7 @@ room c =
 
 pub loop-i-init : goal.loop-i-init
 loop-i-init c =
-    (refl, refl, refl, refl, omega arith, begin _ _ _)
+    (refl, refl, refl, refl, begin _ _ _)
 
 pub overflow_mul-from : goal.overflow_mul-from
 overflow_mul-from c =
@@ -115,14 +115,6 @@ overflow_add-at c =
     let lent = simp (length-take, length-drop) at part in
     omega (arith, room (goal.at.overflow_add-at c).In-loop-i)
 
-pub overflow_add-i : goal.overflow_add-i
-overflow_add-i c =
-    omega (arith, room (goal.at.overflow_add-i c).In-loop-i)
-
-pub loop-i-smaller : goal.loop-i-smaller
-loop-i-smaller c =
-    omega (arith, c.loop-i-test)
-
 pub loop-i-preserved : goal.loop-i-preserved
 loop-i-preserved c =
     let st = c.step-lent in
@@ -131,8 +123,7 @@ loop-i-preserved c =
       st.auto.octants ∙ l.invariant.1,
       same_len_mid l.at (length l.listings - l.at) l.listings st.new.listings st.auto.listings ∙ l.invariant.2,
       same_len_mid (answer_width * l.i) (length l.answers - answer_width * l.i) l.answers st.new.answers st.auto.answers ∙ l.invariant.3,
-      omega (arith, c.loop-i-test),
-      turn _ _ _ l.i l.at l.listings l.answers _ l.invariant.5 st.result _ _ _ st.ensures,
+      turn _ _ _ l.i l.at l.listings l.answers _ l.invariant.4 st.result _ _ _ st.ensures,
     )
 
 pub shape_of-samples : goal.shape_of-samples
@@ -156,5 +147,5 @@ unfolding steps_of
 returns c =
     let l = c.loop-i in
     let n = c.steps_of-steps in
-    let all : l.i ≡ n.result = omega (arith, l.invariant.4, c.loop-i-test) in
-    replayed _ _ _ _ _ _ _ n.ensures (rw all at l.invariant.5.ran)
+    let all : l.i ≡ n.result = omega arith in
+    replayed _ _ _ _ _ _ _ n.ensures (rw all at l.invariant.4.ran)

@@ -1,5 +1,4 @@
 -- `replay::hbx_replay`: after i turns the first i steps are made.
-use Prim.Native.Nat.{◌-◌, ◌≤◌}
 use mathlib.Core.Path.{◌≡◌}
 use lib.ListN.{length}
 use Rattle.model.specs.Tables.{pair}
@@ -13,9 +12,4 @@ invariant-loop-i l =
     × (length l.octants ≡ length l.initial.octants)
     × (length l.listings ≡ length l.initial.listings)
     × (length l.answers ≡ length l.initial.answers)
-    × (l.i ≤ l.steps)
     × Upto (script_of l.script l.floats l.sheets l.initial.listings) l.initial.answers (pair l.initial.samples l.initial.octants) l.i l.at l.listings l.answers (pair l.samples l.octants)
-
-abbrev pub decreases-loop-i : goal.decreases-loop-i
-decreases-loop-i l =
-    l.steps - l.i
