@@ -32,14 +32,12 @@ fn c_name(case: &str) -> String {
     name
 }
 
-/// The cases of the proved code, by `number_of`: every case of the enum, in its order, numbered from 1.
+/// The cases of the proved code: every case of the enum with its number, numbered from 1.
 fn cases() -> Vec<(String, u32)> {
-    let declared = lines_after(CODE, "pub enum Refusal {");
-    let arms = lines_after(CODE, "match refusal {");
-    let arms: Vec<_> = arms.iter().map(|arm| numbered(arm.strip_prefix("Refusal::").unwrap(), " => ")).collect();
-    assert!(!declared.is_empty());
-    assert_eq!(arms, declared.iter().map(|name| name.to_string()).zip(1..).collect::<Vec<_>>());
-    arms
+    let cases: Vec<_> = lines_after(CODE, "pub enum Refusal {").iter().map(|line| numbered(line, " = ")).collect();
+    assert!(!cases.is_empty());
+    assert_eq!(cases.iter().map(|case| case.1).collect::<Vec<_>>(), (1..).take(cases.len()).collect::<Vec<_>>());
+    cases
 }
 
 #[test]

@@ -22,6 +22,19 @@ pub struct Channels<T> {
     pub blue: T,
 }
 
+impl<T: Copy> Channels<T> {
+    // The same in each channel.
+    pub fn all(value: T) -> Self
+        ensures { result ≡ record { red = value; green = value; blue = value } }
+    {
+        Channels {
+            red: value,
+            green: value,
+            blue: value,
+        }
+    }
+}
+
 // A colour as three words. They are wider than a code, so that a code out of range can be passed and refused.
 pub type Colour = Channels<u32>;
 

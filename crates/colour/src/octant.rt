@@ -24,11 +24,7 @@ pub fn root() -> Cube
     ensures within { Within result }
 {
     Cube {
-        low: Channels {
-            red: 0,
-            green: 0,
-            blue: 0,
-        },
+        low: Channels::all(0),
         depth: 0,
         side: side(0),
     }

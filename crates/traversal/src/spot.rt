@@ -30,11 +30,7 @@ pub fn root_spot(p: Probe) -> Spot
 {
     Spot {
         cube: root(),
-        near: Squares {
-            red: 0,
-            green: 0,
-            blue: 0,
-        },
+        near: Squares::all(0),
     }
 }
 

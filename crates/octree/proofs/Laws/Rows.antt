@@ -1,5 +1,5 @@
--- Octant rows as they are written and compared, child by child.
+-- Octant rows as they are passed to a table, child by child.
 pub mod Octant
 pub mod Passed
-pub mod Written
-pub mod Compared
+pub mod Given
+pub mod Ends

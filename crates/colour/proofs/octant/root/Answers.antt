@@ -7,4 +7,4 @@ use Rattle.colour.proofs.octant.root.Goals as goal
 pub returns : goal.returns
 unfolding root_cube black colour_by
 returns c =
-    let both = is_within (rw c.side.ensures.is) root_within in record { is = both.0; within = both.1 }
+    let both = is_within (rw (c.all.ensures, c.side.ensures.is)) root_within in record { is = both.0; within = both.1 }
