@@ -34,11 +34,7 @@ fn grey(tag: u32, code: u32) -> Sample
 {
     Sample {
         tag,
-        colour: Colour {
-            red: code,
-            green: code,
-            blue: code,
-        },
+        colour: Colour::all(code),
     }
 }
 

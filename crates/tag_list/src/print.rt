@@ -27,17 +27,6 @@ const OCTANT_WORDS: usize = 16380;
 // The bucket size, b.
 const BUCKET: u32 = 2;
 
-// A colour with one code in each channel.
-fn grey(code: u32) -> Colour
-    ensures { result ≡ record { red = code; green = code; blue = code } }
-{
-    Colour {
-        red: code,
-        green: code,
-        blue: code,
-    }
-}
-
 // Writes the tags of the set in sound tables, in the order (the paper's walk). A box of all colours lists every sample.
 fn put_order(samples: &[u32], octants: &[u32], text: &mut [u8]) -> usize
     requires { (Fits (pair samples.now octants.now)) × (5632 ≤ length text.old) }
@@ -48,7 +37,7 @@ fn put_order(samples: &[u32], octants: &[u32], text: &mut [u8]) -> usize
     let Ok(counts) = list(
         samples,
         octants,
-        Region::Box(grey(0), grey(65535)),
+        Region::Box(Colour::all(0), Colour::all(65535)),
         &mut tags,
     ) else {
         return 0;

@@ -15,8 +15,8 @@ overflow_add-seen c = omega (arith, more _ _ _ _ c.loop-row.invariant c.in-Some.
 pub rank-found-requires : goal.rank-found-requires
 rank-found-requires c =
     given_row c.args.samples.now c.args.count c.args.first c.into_iter-row-iterator.result
-      (ap rows_left c.into_iter-row-iterator.ensures.into_iter_gives ∙ c.rows_from-row-items.ensures)
-      c.loop-row.yielded c.loop-row.row-iterator c.loop-row.yielded_by c.next.result c.next.new.self c.in-Some.row c.in-Some.is c.next.ensures.steps
+    (ap rows_left c.into_iter-row-iterator.ensures.into_iter_gives ∙ c.rows_from-row-items.ensures)
+    c.loop-row.yielded c.loop-row.row-iterator c.loop-row.yielded_by c.next.result c.next.new.self c.in-Some.row c.in-Some.is c.next.ensures.steps
 
 pub loop-row-preserved : goal.loop-row-preserved
 loop-row-preserved c = one_more _ _ _ _ c.loop-row.invariant c.in-Some.ensures.steps c.rank-found.ensures (omega arith)

@@ -22,7 +22,7 @@ list-requires c =
 -- The listing after it.
 ordered : (c : In-Ok) → Ordered (pair c.args.samples.now c.args.octants.now) c.list.new.listing c.in-Ok.counts.listed
 ordered c =
-    listed_ordered (pair c.args.samples.now c.args.octants.now) c.requires.0 _ (ap₂ Box c.grey.ensures c.grey-2.ensures) _ _ refl c.list.result c.list.ensures _ c.in-Ok.is
+    listed_ordered (pair c.args.samples.now c.args.octants.now) c.requires.0 _ (ap₂ Box c.all.ensures c.all-2.ensures) _ _ refl c.list.result c.list.ensures _ c.in-Ok.is
 
 pub slice_bounds-tags-end : goal.slice_bounds-tags-end
 slice_bounds-tags-end c = (ordered (goal.at.slice_bounds-tags-end c).In-Ok).within
@@ -41,4 +41,4 @@ returns c = order_printed _ _ _ _ _ (ordered (goal.at.returns c).In-Ok) c.put_ta
 pub returns-in_default : goal.returns-in_default
 unfolding Fits
 returns-in_default c =
-    absurd (never_refused (pair c.args.samples.now c.args.octants.now) c.requires.0 _ (ap₂ Box c.grey.ensures c.grey-2.ensures) _ _ refl c.list.result c.list.ensures _ c.in_default.is)
+    absurd (never_refused (pair c.args.samples.now c.args.octants.now) c.requires.0 _ (ap₂ Box c.all.ensures c.all-2.ensures) _ _ refl c.list.result c.list.ensures _ c.in_default.is)

@@ -25,9 +25,9 @@ returns-then-rows-octant c =
     says_no
     (λ e.
     elim c.then-rows-octant.branch [
-      then-rows-octant-via-then-rows-octant w ↦ w.if-rows-octant.true (words e).0
-    | then-rows-octant-via-else-rows-octant+then-rows-octant-2 w ↦ w.if-rows-octant-2.true (words e).1
-    | then-rows-octant-via-else-rows-octant+else-rows-octant-2+then-rows-octant-3 w ↦ w.if-rows-octant-3.true (words e).2
+      | then-rows-octant-via-then-rows-octant w ↦ w.if-rows-octant.true (words e).0
+      | then-rows-octant-via-else-rows-octant+then-rows-octant-2 w ↦ w.if-rows-octant-2.true (words e).1
+      | then-rows-octant-via-else-rows-octant+else-rows-octant-2+then-rows-octant-3 w ↦ w.if-rows-octant-3.true (words e).2
     ])
 
 pub slice_bounds-eq-end : goal.slice_bounds-eq-end
