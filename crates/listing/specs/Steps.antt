@@ -2,7 +2,7 @@
 use Rattle.std.specs.Prelude.{ℕ, ◌+◌, ◌≤◌, ◌<◌, Bool, List, ◌≡◌, length}
 use Rattle.std.proofs.lemmas.List.Edits.{sets}
 use Rattle.colour.specs.declared.Region.{Region}
-use Rattle.model.specs.Layout.{current, sample_header, octant_header}
+use Rattle.model.specs.Layout.{current}
 use Rattle.words.specs.Rows.{octant_limit, sample_budget}
 use Rattle.listing.specs.declared.follow.Run.{Run}
 use Rattle.listing.specs.declared.tally.Tally as Lent
@@ -24,10 +24,8 @@ pub record TallyWithin (budget limit : ℕ) (t : Tally) : Type 0 where
   pub measured : t.measured ≤ t.visited
   pub visited : t.visited ≤ budget
 
--- What is known wherever a pass stands: both headers are there, and the tally that is lent is within the tables' bounds.
+-- What is known wherever a pass stands: the limit fits 32 bits, and the tally that is lent is within the tables' bounds.
 pub record Counting (ws os : List ℕ) (lent : Lent.Tally) : Type 0 where
-  pub samples : sample_header current ≤ length ws
-  pub octants : octant_header current ≤ length os
   pub small : octant_limit current os < 4294967296
   pub limits : TallyWithin (sample_budget current ws) (octant_limit current os) (tally_in lent)
   pub listed : lent.listed ≤ lent.visited

@@ -1,6 +1,5 @@
 // Ball and box over codes: the tags of the samples in a region, with what was entered and measured.
 ghost use Rattle.std.specs.Prelude.{◌≤◌, ◌≡◌, length, Ok};
-ghost use Rattle.model.specs.Layout.{current, sample_header, octant_header};
 ghost use Rattle.listing.specs.Pass.{pass_of};
 ghost use Rattle.listing.specs.Answers.{listed_answer, pass_answer};
 
@@ -8,7 +7,7 @@ use crate::tally::Tally;
 use crate::visit::pass;
 use colour::Region;
 use colour::refusal::Refusal;
-use words::layout::sample_budget;
+use words::tables::Tables;
 
 // What a listing came to: how many are listed, octants entered, and samples measured.
 #[derive(Clone, Copy)]
@@ -19,25 +18,23 @@ pub struct Counts {
 }
 
 // How many a pass lists. It writes on a word of its own, and so only counts.
-fn how_many(samples: &[u32], octants: &[u32], region: Region) -> usize
-    requires { (sample_header current ≤ length samples.now) × (octant_header current ≤ length octants.now) }
-    ensures { result ≡ length (pass_of samples.now octants.now region).tags }
+fn how_many(tables: &Tables<'_>, region: Region) -> usize
+    ensures { result ≡ length (pass_of tables.now.samples.now tables.now.octants.now region).tags }
 {
     let mut tally = Tally::new();
     let mut word = [0u32; 1];
-    pass(samples, octants, region, &mut word, &mut tally);
+    pass(tables, region, &mut word, &mut tally);
     tally.listed as usize
 }
 
 // A pass that writes.
-fn write(samples: &[u32], octants: &[u32], region: Region, listing: &mut [u32]) -> Counts
-    requires headed { (sample_header current ≤ length samples.now) × (octant_header current ≤ length octants.now) }
-    requires room { length (pass_of samples.now octants.now region).tags ≤ length listing.old }
+fn write(tables: &Tables<'_>, region: Region, listing: &mut [u32]) -> Counts
+    requires room { length (pass_of tables.now.samples.now tables.now.octants.now region).tags ≤ length listing.old }
     ensures { listed_answer (Ok result) listing.new
-        ≡ pass_answer (pass_of samples.now octants.now region) listing.old }
+        ≡ pass_answer (pass_of tables.now.samples.now tables.now.octants.now region) listing.old }
 {
     let mut tally = Tally::new();
-    pass(samples, octants, region, listing, &mut tally);
+    pass(tables, region, listing, &mut tally);
     Counts {
         listed: tally.listed,
         entered: tally.entered,
@@ -47,21 +44,15 @@ fn write(samples: &[u32], octants: &[u32], region: Region, listing: &mut [u32]) 
 
 // Question 13, and the listing. A listing as long as the samples that a pass may visit holds all, so that one pass does; else it is counted
 // first, and nothing is written where it is too short.
-pub fn list(
-    samples: &[u32],
-    octants: &[u32],
-    region: Region,
-    listing: &mut [u32],
-) -> Result<Counts, Refusal>
-    requires { (sample_header current ≤ length samples.now) × (octant_header current ≤ length octants.now) }
+pub fn list(tables: &Tables<'_>, region: Region, listing: &mut [u32]) -> Result<Counts, Refusal>
     ensures { listed_answer result listing.new
-        ≡ pass_answer (pass_of samples.now octants.now region) listing.old }
+        ≡ pass_answer (pass_of tables.now.samples.now tables.now.octants.now region) listing.old }
 {
     let room = listing.len();
-    if room < sample_budget(samples) as usize {
-        if room < how_many(samples, octants, region) {
+    if room < tables.sample_budget() as usize {
+        if room < how_many(tables, region) {
             return Err(Refusal::NoRoom);
         }
     }
-    Ok(write(samples, octants, region, listing))
+    Ok(write(tables, region, listing))
 }

@@ -1,8 +1,8 @@
 // The traversal: it recurses through octants, the depth left falling, and serves ball and box alike. What the listing has no room for is
 // counted and not written.
-ghost use Rattle.std.specs.Prelude.{◌-◌, ◌<◌, ◌≤◌, ◌≡◌, length};
+ghost use Rattle.std.specs.Prelude.{◌-◌, ◌<◌, ◌≤◌, ◌≡◌};
 ghost use Rattle.colour.specs.Octant.{Within};
-ghost use Rattle.model.specs.Layout.{current, sample_header, octant_header};
+ghost use Rattle.model.specs.Layout.{current};
 ghost use Rattle.words.specs.Rows.{octant_limit, sample_budget};
 ghost use Rattle.listing.specs.Pass.{no_tally, own_samples, visit_of, pass_of};
 ghost use Rattle.listing.specs.Steps.{tally_of, tally_in, TallyWithin, Counting, Visited};
@@ -14,30 +14,30 @@ use colour::octant::{child, parent_of, root};
 use colour::overlap::{inside, overlapping, overlaps};
 use colour::{Cube, Region};
 use traversal::octant::{ends, most};
-use words::layout::{octant_child, octant_first, octant_limit};
+use words::layout::{octant_child, octant_first};
+use words::tables::Tables;
 
 // An entered octant's own samples.
 fn own_samples(
-    samples: &[u32],
-    octants: &[u32],
+    tables: &Tables<'_>,
     region: Region,
     whole: bool,
     row: u32,
     listing: &mut [u32],
     tally: &mut Tally,
 )
-    requires counting { Counting samples.now octants.now tally.old }
-    requires row_bound { row < octant_limit current octants.now }
+    requires counting { Counting tables.now.samples.now tables.now.octants.now tally.old }
+    requires row_bound { row < octant_limit current tables.now.octants.now }
     ensures { Visited
-        (own_samples samples.now octants.now region whole row (tally_in tally.old))
+        (own_samples tables.now.samples.now tables.now.octants.now region whole row (tally_in tally.old))
         tally.old listing.old tally.new listing.new }
 {
-    let most = most(samples, octants, row, tally.visited);
+    let most = most(tables, row, tally.visited);
     let run = follow(
-        samples,
+        tables.samples,
         region,
         whole,
-        octant_first(octants, row),
+        octant_first(tables.octants, row),
         most,
         listing,
         tally.listed,
@@ -47,8 +47,7 @@ fn own_samples(
 
 // Enters the octant in a row.
 fn visit(
-    samples: &[u32],
-    octants: &[u32],
+    tables: &Tables<'_>,
     region: Region,
     row: u32,
     cube: Cube,
@@ -56,60 +55,45 @@ fn visit(
     tally: &mut Tally,
 )
     requires within { Within cube }
-    requires counting { Counting samples.now octants.now tally.old }
-    requires next_bound { (tally.old.next ≤ row) × (row < octant_limit current octants.now) }
+    requires counting { Counting tables.now.samples.now tables.now.octants.now tally.old }
+    requires next_bound { (tally.old.next ≤ row) × (row < octant_limit current tables.now.octants.now) }
     ensures { Visited
-        (visit_of samples.now octants.now region (16 - cube.depth) row cube.low (tally_in tally.old))
+        (visit_of tables.now.samples.now tables.now.octants.now region (16 - cube.depth) row cube.low (tally_in tally.old))
         tally.old listing.old tally.new listing.new }
 {
     tally.enter(row);
     let whole = inside(region, cube);
-    if ends(samples, octants, whole, cube.depth, row) {
-        own_samples(samples, octants, region, whole, row, listing, tally);
+    if ends(tables, whole, cube.depth, row) {
+        own_samples(tables, region, whole, row, listing, tally);
         return;
     }
-    let limit = octant_limit(octants);
+    let limit = tables.octant_limit();
     let parent = parent_of(cube);
     let mut left = overlapping(region, parent);
     while left != 0 {
         let k = first(left);
         left = without(left, k);
-        let next = octant_child(octants, row, k);
+        let next = octant_child(tables.octants, row, k);
         if tally.may_enter(next, limit) {
-            visit(
-                samples,
-                octants,
-                region,
-                next,
-                child(parent, k),
-                listing,
-                tally,
-            );
+            visit(tables, region, next, child(parent, k), listing, tally);
         }
     }
 }
 
 // A whole pass, with a fresh tally: the root is entered where it is there and overlaps.
-pub fn pass(
-    samples: &[u32],
-    octants: &[u32],
-    region: Region,
-    listing: &mut [u32],
-    tally: &mut Tally,
-)
-    requires headed { (sample_header current ≤ length samples.now) × (octant_header current ≤ length octants.now) }
+pub fn pass(tables: &Tables<'_>, region: Region, listing: &mut [u32], tally: &mut Tally)
     requires blank { tally.old ≡ tally_of 0 no_tally }
     ensures visited { Visited
-        (pass_of samples.now octants.now region)
+        (pass_of tables.now.samples.now tables.now.octants.now region)
         tally.old listing.old tally.new listing.new }
     ensures bounded { TallyWithin
-        (sample_budget current samples.now) (octant_limit current octants.now) (tally_in tally.new) }
+        (sample_budget current tables.now.samples.now) (octant_limit current tables.now.octants.now) (tally_in tally.new) }
 {
-    let limit = octant_limit(octants);
+    let limit = tables.octant_limit();
     let all = root();
     if tally.may_enter(0, limit) {
         if overlaps(region, all) {
-            visit(samples, octants, region, 0, all, listing, tally);
+            visit(tables, region, 0, all, listing, tally);
         }
     }
 }

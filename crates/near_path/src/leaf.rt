@@ -13,6 +13,7 @@ use colour::{Probe, wrapped};
 use traversal::octant::most;
 use traversal::rows::rows_from;
 use words::layout::{colour as colour_of, octant_first};
+use words::tables::Tables;
 
 // What a run of samples came to: the least rank, by how far and then by row, and how many samples it saw.
 #[derive(Clone, Copy)]
@@ -44,15 +45,15 @@ fn measure(samples: &[u32], p: Probe, first: u32, count: u32) -> Run
 }
 
 // An entered octant's own samples.
-pub fn own(samples: &[u32], octants: &[u32], p: Probe, octant: u32, search: &mut Search)
-    requires ready { SearchReady samples.now octants.now (search_in search.old) }
-    requires octant_bound { octant < octant_limit current octants.now }
+pub fn own(tables: &Tables<'_>, p: Probe, octant: u32, search: &mut Search)
+    requires ready { SearchReady tables.now.samples.now tables.now.octants.now (search_in search.old) }
+    requires octant_bound { octant < octant_limit current tables.now.octants.now }
     ensures { search.new
-        ≡ search_after (own_search (bests samples.now p) samples.now octants.now octant)
+        ≡ search_after (own_search (bests tables.now.samples.now p) tables.now.samples.now tables.now.octants.now octant)
         search.old }
 {
-    let count = most(samples, octants, octant, search.visited as u32);
-    let first = octant_first(octants, octant);
-    let run = measure(samples, p, first, count);
+    let count = most(tables, octant, search.visited as u32);
+    let first = octant_first(tables.octants, octant);
+    let run = measure(tables.samples, p, first, count);
     search.take(octant, run.rank, run.seen);
 }

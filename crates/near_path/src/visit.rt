@@ -1,7 +1,7 @@
 // The search: it recurses through octants, the depth left falling, and takes the closest child first. Its siblings are looked at once it is done: most are
 // then too far.
-ghost use Rattle.std.specs.Prelude.{◌≤◌, ◌<◌, ◌≡◌, length};
-ghost use Rattle.model.specs.Layout.{current, sample_header, octant_header};
+ghost use Rattle.std.specs.Prelude.{◌≤◌, ◌<◌, ◌≡◌};
+ghost use Rattle.model.specs.Layout.{current};
 ghost use Rattle.words.specs.Rows.{octant_limit};
 ghost use Rattle.traversal.specs.Steps.{SearchReady};
 ghost use Rattle.traversal.specs.Spot.{Stood, Forked, search_at, siblings_at, split_at};
@@ -16,74 +16,67 @@ use colour::mask::{first as first_of, without};
 use traversal::nearby::{far_of, sum_by, turns};
 use traversal::octant::{child_at, ends};
 use traversal::spot::{Fork, Spot, closest_spot, fork_of, parent_at, root_spot, sibling_spot};
-use words::layout::{octant_limit, sample_rows, tag as tag_of};
+use words::layout::{sample_rows, tag as tag_of};
+use words::tables::Tables;
 
 // The siblings of the closest child, in turn: those that are still close enough.
 #[cycle(siblings_split_visit)]
-fn siblings(
-    samples: &[u32],
-    octants: &[u32],
-    p: Probe,
-    row: u32,
-    spot: Spot,
-    fork: Fork,
-    search: &mut Search,
-)
-    requires forked { (Forked p spot fork) × (row < octant_limit current octants.now) }
-    requires ready { SearchReady samples.now octants.now (search_in search.old) }
+fn siblings(tables: &Tables<'_>, p: Probe, row: u32, spot: Spot, fork: Fork, search: &mut Search)
+    requires forked { (Forked p spot fork) × (row < octant_limit current tables.now.octants.now) }
+    requires ready { SearchReady tables.now.samples.now tables.now.octants.now (search_in search.old) }
     ensures { search.new
-        ≡ search_after (siblings_at (bests samples.now p) samples.now octants.now p row spot)
+        ≡ search_after (siblings_at (bests tables.now.samples.now p) tables.now.samples.now tables.now.octants.now p row spot)
         search.old }
 {
     let far = far_of(p, parent_at(p, spot, fork));
-    let limit = octant_limit(octants);
+    let limit = tables.octant_limit();
     let mut left = turns(search.distance, spot.near, far);
     while left != 0 {
         let turn = first_of(left);
         left = without(left, turn);
-        let next = child_at(octants, row, fork.first ^ turn);
+        let next = child_at(tables.octants, row, fork.first ^ turn);
         let to = sibling_spot(p, spot, fork, far, turn);
         if search.reaches(next, limit, sum_by(to.near)) {
-            visit(samples, octants, p, next, to, search);
+            visit(tables, p, next, to, search);
         }
     }
 }
 
 // A split octant: the closest child, and then its siblings. (In a function of its own: in `visit`, what is handed on would be copied in pieces.)
 #[cycle(siblings_split_visit)]
-fn split(samples: &[u32], octants: &[u32], p: Probe, row: u32, spot: Spot, search: &mut Search)
+fn split(tables: &Tables<'_>, p: Probe, row: u32, spot: Spot, search: &mut Search)
     requires stood { (Stood p spot) × (spot.cube.depth < 16) }
-    requires row_bound { row < octant_limit current octants.now }
-    requires ready { SearchReady samples.now octants.now (search_in search.old) }
+    requires row_bound { row < octant_limit current tables.now.octants.now }
+    requires ready { SearchReady tables.now.samples.now tables.now.octants.now (search_in search.old) }
     ensures { search.new
-        ≡ search_after (split_at (bests samples.now p) samples.now octants.now p row spot)
+        ≡ search_after (split_at (bests tables.now.samples.now p) tables.now.samples.now tables.now.octants.now p row spot)
         search.old }
 {
     let fork = fork_of(p, spot.cube);
-    let next = child_at(octants, row, fork.first);
+    let next = child_at(tables.octants, row, fork.first);
     let to = closest_spot(p, spot, fork);
-    if search.reaches(next, octant_limit(octants), sum_by(to.near)) {
-        visit(samples, octants, p, next, to, search);
+    if search.reaches(next, tables.octant_limit(), sum_by(to.near)) {
+        visit(tables, p, next, to, search);
     }
-    siblings(samples, octants, p, row, spot, fork, search);
+    siblings(tables, p, row, spot, fork, search);
 }
 
 // Enters the octant in a row: its own samples are measured, or its children are searched.
 #[cycle(siblings_split_visit)]
-fn visit(samples: &[u32], octants: &[u32], p: Probe, row: u32, spot: Spot, search: &mut Search)
-    requires stood { (Stood p spot) × (row < octant_limit current octants.now) }
-    requires ready { SearchReady samples.now octants.now (search_in search.old) }
-    requires search_bound { search.old.entered < octant_limit current octants.now }
+fn visit(tables: &Tables<'_>, p: Probe, row: u32, spot: Spot, search: &mut Search)
+    requires stood { (Stood p spot) × (row < octant_limit current tables.now.octants.now) }
+    requires ready { SearchReady tables.now.samples.now tables.now.octants.now (search_in search.old) }
+    requires search_bound { search.old.entered < octant_limit current tables.now.octants.now }
     ensures { search.new
-        ≡ search_after (search_at (bests samples.now p) samples.now octants.now p row spot)
+        ≡ search_after (search_at (bests tables.now.samples.now p) tables.now.samples.now tables.now.octants.now p row spot)
         search.old }
 {
     search.enter();
-    if ends(samples, octants, false, spot.cube.depth, row) {
-        own(samples, octants, p, row, search);
+    if ends(tables, false, spot.cube.depth, row) {
+        own(tables, p, row, search);
         return;
     }
-    split(samples, octants, p, row, spot, search);
+    split(tables, p, row, spot, search);
 }
 
 // What is found, with its tag. The row is tested before it is read.
@@ -106,13 +99,12 @@ fn best_of(samples: &[u32], search: &Search) -> Best
 }
 
 // Nearest over codes: the root is entered if it is there.
-pub fn nearest(samples: &[u32], octants: &[u32], p: Probe, radius: u32) -> Best
-    requires headed { (sample_header current ≤ length samples.now) × (octant_header current ≤ length octants.now) }
-    ensures { result ≡ best_found samples.now octants.now p radius }
+pub fn nearest(tables: &Tables<'_>, p: Probe, radius: u32) -> Best
+    ensures { result ≡ best_found tables.now.samples.now tables.now.octants.now p radius }
 {
     let mut search = Search::new(square(radius));
-    if 0 < octant_limit(octants) {
-        visit(samples, octants, p, 0, root_spot(p), &mut search);
+    if 0 < tables.octant_limit() {
+        visit(tables, p, 0, root_spot(p), &mut search);
     }
-    best_of(samples, &search)
+    best_of(tables.samples, &search)
 }

@@ -1,7 +1,7 @@
 -- What the functions under nearest ask and promise. No call's own promise cites these.
 use Rattle.std.specs.Prelude.{ℕ, ◌≤◌, ◌<◌, List, ◌≡◌, length}
 use Rattle.colour.specs.Channels.{Colour}
-use Rattle.model.specs.Layout.{current, sample_header, octant_header}
+use Rattle.model.specs.Layout.{current}
 use Rattle.words.specs.Rows.{octant_limit, sample_budget}
 use Rattle.traversal.specs.Own.{rows_from}
 use Rattle.nearest.specs.declared.best.Best.{Best}
@@ -14,10 +14,8 @@ pub record SearchWithin (budget limit : ℕ) (s : Search) : Type 0 where
   pub entered : s.entered ≤ limit
   pub visited : s.visited ≤ budget
 
--- What is known wherever a search stands: both headers are there, and it is within the tables' bounds.
+-- What is known wherever a search stands: the limit fits 32 bits, and it is within the tables' bounds.
 pub record Ready (ws os : List ℕ) (s : Search) : Type 0 where
-  pub samples : sample_header current ≤ length ws
-  pub octants : octant_header current ≤ length os
   pub small : octant_limit current os < 4294967296
   pub limits : SearchWithin (sample_budget current ws) (octant_limit current os) s
 

@@ -11,6 +11,7 @@ use colour::{Codes, wrapped};
 use traversal::octant::most;
 use traversal::rows::rows_from;
 use words::layout::{colour as colour_of, octant_first, tag as tag_of};
+use words::tables::Tables;
 
 // What a search has come to: the best so far, how many octants were entered, and how many samples visited.
 #[derive(Clone, Copy)]
@@ -50,15 +51,15 @@ fn measure(samples: &[u32], centre: Codes, octant: u32, first: u32, count: u32, 
 }
 
 // An entered octant's own samples.
-pub fn own(samples: &[u32], octants: &[u32], centre: Codes, row: u32, search: Search) -> Search
-    requires ready { Ready samples.now octants.now search }
-    requires row_bound { row < octant_limit current octants.now }
-    ensures { result ≡ own_search samples.now octants.now centre row search }
+pub fn own(tables: &Tables<'_>, centre: Codes, row: u32, search: Search) -> Search
+    requires ready { Ready tables.now.samples.now tables.now.octants.now search }
+    requires row_bound { row < octant_limit current tables.now.octants.now }
+    ensures { result ≡ own_search tables.now.samples.now tables.now.octants.now centre row search }
 {
-    let count = most(samples, octants, row, search.visited);
-    let first = octant_first(octants, row);
+    let count = most(tables, row, search.visited);
+    let first = octant_first(tables.octants, row);
     let start = search.best;
-    let run = measure(samples, centre, row, first, count, start);
+    let run = measure(tables.samples, centre, row, first, count, start);
     let best = run.best;
     Search {
         best,

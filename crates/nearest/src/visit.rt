@@ -1,8 +1,8 @@
 // The search: it recurses through octants, the depth left falling, and takes the closest child first.
-ghost use Rattle.std.specs.Prelude.{◌-◌, ◌≤◌, ◌<◌, ◌&&◌, ◌≡◌, ltb, length};
+ghost use Rattle.std.specs.Prelude.{◌-◌, ◌≤◌, ◌<◌, ◌&&◌, ◌≡◌, ltb};
 ghost use Rattle.colour.specs.Octant.{Within};
 ghost use Rattle.colour.specs.Nearby.{closest_by};
-ghost use Rattle.model.specs.Layout.{current, sample_header, octant_header};
+ghost use Rattle.model.specs.Layout.{current};
 ghost use Rattle.words.specs.Rows.{octant_limit};
 ghost use Rattle.nearest.specs.Best.{closer};
 ghost use Rattle.nearest.specs.Search.{search_entering, search_of, no_search, search_all};
@@ -16,7 +16,8 @@ use colour::octant::{child, parent_of, root};
 use colour::overlap::Halves;
 use colour::{Channels, Codes, Cube};
 use traversal::octant::ends;
-use words::layout::{octant_child, octant_limit};
+use words::layout::octant_child;
+use words::tables::Tables;
 
 // How many children an octant of side over 1 has.
 const CHILDREN: u32 = 8;
@@ -49,32 +50,25 @@ fn reaches(search: Search, row: u32, limit: u32, gaps: Channels<Halves>, k: u32)
 
 // Enters the octant in a row. Turn 0 takes the child that the centre lies in or is closest to; each other turn one that differs from it in the
 // channels of the turn's bits.
-fn visit(
-    samples: &[u32],
-    octants: &[u32],
-    centre: Codes,
-    row: u32,
-    cube: Cube,
-    from: Search,
-) -> Search
+fn visit(tables: &Tables<'_>, centre: Codes, row: u32, cube: Cube, from: Search) -> Search
     requires within { Within cube }
-    requires ready { Ready samples.now octants.now from }
-    requires row_bound { (row < octant_limit current octants.now) × (from.entered < octant_limit current octants.now) }
-    ensures { result ≡ search_of samples.now octants.now centre (16 - cube.depth) row cube.low from }
+    requires ready { Ready tables.now.samples.now tables.now.octants.now from }
+    requires row_bound { (row < octant_limit current tables.now.octants.now) × (from.entered < octant_limit current tables.now.octants.now) }
+    ensures { result ≡ search_of tables.now.samples.now tables.now.octants.now centre (16 - cube.depth) row cube.low from }
 {
     let mut search = enter(from);
-    if ends(samples, octants, false, cube.depth, row) {
-        return own(samples, octants, centre, row, search);
+    if ends(tables, false, cube.depth, row) {
+        return own(tables, centre, row, search);
     }
-    let limit = octant_limit(octants);
+    let limit = tables.octant_limit();
     let parent = parent_of(cube);
     let gaps = gaps_of(centre, parent);
     let first = closest_child(centre, parent);
     for turn in 0..CHILDREN {
         let k = first ^ turn;
-        let next = octant_child(octants, row, k);
+        let next = octant_child(tables.octants, row, k);
         if reaches(search, next, limit, gaps, k) {
-            search = visit(samples, octants, centre, next, child(parent, k), search);
+            search = visit(tables, centre, next, child(parent, k), search);
         }
     }
     search
@@ -96,16 +90,15 @@ fn start(radius: u32) -> Search
 }
 
 // Nearest over codes: the root is entered where it is there.
-pub fn nearest(samples: &[u32], octants: &[u32], centre: Codes, radius: u32) -> Best
-    requires headed { (sample_header current ≤ length samples.now) × (octant_header current ≤ length octants.now) }
-    ensures { result ≡ (search_all samples.now octants.now centre radius).best }
+pub fn nearest(tables: &Tables<'_>, centre: Codes, radius: u32) -> Best
+    ensures { result ≡ (search_all tables.now.samples.now tables.now.octants.now centre radius).best }
 {
     let none = start(radius);
-    if octant_limit(octants) == 0 {
+    if tables.octant_limit() == 0 {
         let best = none.best;
         return best;
     }
-    let found = visit(samples, octants, centre, 0, root(), none);
+    let found = visit(tables, centre, 0, root(), none);
     let best = found.best;
     best
 }

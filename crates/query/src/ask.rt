@@ -12,6 +12,7 @@ use colour::{PanelColour, Query};
 use listing::list::list;
 use nearest::visit::nearest as nearest_code;
 use words::layout::long_enough;
+use words::tables::Tables;
 
 // The query entry: an exported call. Questions 1 and 9, and then the listing or the search. A nearest query leaves the listing as it is.
 pub fn ask(
@@ -27,11 +28,12 @@ pub fn ask(
     if !long_enough(samples.len(), octants.len()) {
         return Err(Refusal::TooShort);
     }
+    let tables = Tables { samples, octants };
     let wanted = Wanted::try_from(query)?;
     match wanted {
-        Wanted::Listed(region) => of_listed(list(samples, octants, region, listing)),
+        Wanted::Listed(region) => of_listed(list(&tables, region, listing)),
         Wanted::Nearest(centre, radius) => {
-            let best = nearest_code(samples, octants, centre, radius);
+            let best = nearest_code(&tables, centre, radius);
             Ok(of_best(best, square(radius)))
         }
     }

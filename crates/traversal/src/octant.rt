@@ -1,31 +1,31 @@
 // The octant in a row: whether its samples are gone through one by one, how many of them at most, and its children.
 ghost use Rattle.std.specs.Prelude.{◌-◌, ◌<◌, ◌≤◌, ◌≡◌, length};
-ghost use Rattle.model.specs.Layout.{Count, current, sample_header, octant_rows};
+ghost use Rattle.model.specs.Layout.{Count, current, octant_rows};
 ghost use Rattle.words.specs.Rows.{settings_in, octant_field, sample_budget};
 ghost use Rattle.traversal.specs.Own.{own_most, ends_at};
 ghost use Rattle.traversal.specs.Children.{child_at};
 
-use words::layout::{octant_child, octant_count, sample_budget, settings as settings_of};
+use words::layout::{octant_child, octant_count, settings as settings_of};
+use words::tables::Tables;
 
 // The depth of an octant of side 1.
 const DEPTHS: u32 = 16;
 
 // As many samples as the octant in a row counts, and as may still be visited.
-pub fn most(samples: &[u32], octants: &[u32], row: u32, visited: u32) -> u32
-    requires headed { (sample_header current ≤ length samples.now) × (row < octant_rows current (length octants.now)) }
-    requires visited_bound { visited ≤ sample_budget current samples.now }
-    ensures { result ≡ own_most samples.now octants.now row visited }
+pub fn most(tables: &Tables<'_>, row: u32, visited: u32) -> u32
+    requires row_bound { row < octant_rows current (length tables.now.octants.now) }
+    requires visited_bound { visited ≤ sample_budget current tables.now.samples.now }
+    ensures { result ≡ own_most tables.now.samples.now tables.now.octants.now row visited }
 {
-    let left = sample_budget(samples) - visited;
-    octant_count(octants, row).min(left)
+    let left = tables.sample_budget() - visited;
+    octant_count(tables.octants, row).min(left)
 }
 
 // Whether an octant is gone through sample by sample: it is taken whole, or it is not split.
-pub fn ends(samples: &[u32], octants: &[u32], whole: bool, depth: u32, row: u32) -> bool
-    requires { (sample_header current ≤ length samples.now)
-        × ((row < octant_rows current (length octants.now)) × (depth ≤ 16)) }
-    ensures { result ≡ ends_at (16 - depth) whole (octant_field current octants.now row Count)
-        (settings_in current samples.now).bucket }
+pub fn ends(tables: &Tables<'_>, whole: bool, depth: u32, row: u32) -> bool
+    requires { (row < octant_rows current (length tables.now.octants.now)) × (depth ≤ 16) }
+    ensures { result ≡ ends_at (16 - depth) whole (octant_field current tables.now.octants.now row Count)
+        (settings_in current tables.now.samples.now).bucket }
 {
     if whole {
         return true;
@@ -33,8 +33,8 @@ pub fn ends(samples: &[u32], octants: &[u32], whole: bool, depth: u32, row: u32)
     if depth == DEPTHS {
         return true;
     }
-    let settings = settings_of(samples);
-    octant_count(octants, row) <= settings.bucket
+    let settings = settings_of(tables.samples);
+    octant_count(tables.octants, row) <= settings.bucket
 }
 
 // The row of child k, or 0 for none. A search by path asks for children here.

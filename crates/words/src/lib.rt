@@ -2,4 +2,5 @@
 #![tactic(auto)]
 
 pub mod layout;
+pub mod tables;
 pub mod zeros;

@@ -2,10 +2,9 @@
 use Prim.Native.Nat.{ℕ, ◌*◌, ◌≤◌, ◌<◌}
 use mathlib.Core.List.{List}
 use mathlib.Core.Path.{◌≡◌, sym, ap, ◌∙◌, subst}
-use lib.ListN.{length}
 use Rattle.colour.specs.declared.Probe.{Probe}
 use Rattle.colour.specs.Octant.{root_cube}
-use Rattle.model.specs.Layout.{current, sample_header, octant_header}
+use Rattle.model.specs.Layout.{current}
 use Rattle.words.specs.Rows.{octant_limit, sample_budget}
 use Rattle.traversal.specs.declared.spot.Spot.{Spot}
 use Rattle.traversal.specs.Search.{Searching, no_search}
@@ -26,10 +25,10 @@ module _ (ws os : List ℕ) (p : Probe) (r : ℕ) {limit : ℕ} (squared : limit
   begun : search_in lent ≡ no_search (unfound (r * r))
   begun = ap search_in started ∙ ap (λ (n : ℕ). no_search (unfound n)) squared
 
-  pub begin_ready : sample_header current ≤ length ws → octant_header current ≤ length os → octant_limit current os < 4294967296 → SearchReady ws os (search_in lent)
-  begin_ready a b l =
+  pub begin_ready : octant_limit current os < 4294967296 → SearchReady ws os (search_in lent)
+  begin_ready l =
       subst (SearchReady ws os) (sym begun)
-      (record { samples = a; octants = b; small = l; limits = start_within (bests ws p) ws os p (unfound (r * r)) })
+      (record { small = l; limits = start_within (bests ws p) ws os p (unfound (r * r)) })
 
   pub begin_room : 0 < octant_limit current os → (search_in lent).entered < octant_limit current os
   unfolding no_search

@@ -1,17 +1,16 @@
 -- A whole pass: the root is entered, or nothing is.
-use Prim.Native.Nat.{ℕ, ◌-◌, ◌^◌, ◌≤◌, ◌<◌}
+use Prim.Native.Nat.{ℕ, ◌-◌, ◌^◌, ◌<◌}
 use mathlib.Core.Bool.{Bool, true, false, ◌&&◌}
 use mathlib.Core.List.{List}
 use mathlib.Core.Path.{◌≡◌, sym, ap, ap₂, ◌∙◌, subst}
 use native.Mathlib.Omega.{arith}
 use lib.Dec.{leb, ltb}
-use lib.ListN.{length}
 use Rattle.colour.specs.declared.Cube.{Cube}
 use Rattle.colour.specs.declared.Region.{Region}
 use Rattle.colour.specs.Colour.{black}
 use Rattle.colour.specs.Octant.{depths, side_at, root_cube}
 use Rattle.colour.specs.Region.{overlaps}
-use Rattle.model.specs.Layout.{current, sample_header, octant_header}
+use Rattle.model.specs.Layout.{current}
 use Rattle.words.specs.Rows.{octant_limit, sample_budget}
 use Rattle.listing.specs.Pass.{Tally, Visit, enters, nothing, visit_of, no_tally, pass_of}
 use Rattle.listing.specs.declared.tally.Tally as Lent
@@ -30,11 +29,9 @@ module _ (ws os : List ℕ) (R : Region) (lent : Lent.Tally) (fresh : lent ≡ t
   said : tally_in lent ≡ no_tally
   said = ap tally_in fresh
 
-  pub fresh_counting : sample_header current ≤ length ws → octant_header current ≤ length os → octant_limit current os < 4294967296 → Counting ws os lent
-  fresh_counting a b s =
+  pub fresh_counting : octant_limit current os < 4294967296 → Counting ws os lent
+  fresh_counting s =
       record {
-        samples = a;
-        octants = b;
         small = s;
         limits = subst (TallyWithin (sample_budget current ws) (octant_limit current os)) (sym said) (no_tally_within ws os R);
         listed = omega (arith, ap (λ (t : Lent.Tally). t.listed) fresh);

@@ -37,8 +37,6 @@ module _ {ws os : List ℕ} {lent : Lent.Tally} (c : Counting ws os lent) where
   visited_counting {v} {lent'} b d =
       let said : tally_in lent' ≡ v.after = ap tally_in d.tally in
       record {
-        samples = c.samples;
-        octants = c.octants;
         small = c.small;
         limits = subst (TallyWithin (sample_budget current ws) (octant_limit current os)) (sym said) b.limits;
         listed = omega (arith, ap (λ (t : Lent.Tally). t.listed) d.tally, ap (λ (t : Lent.Tally). t.visited) d.tally, c.listed, b.listed);

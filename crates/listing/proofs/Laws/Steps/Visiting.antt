@@ -106,8 +106,6 @@ module _ (ws os : List ℕ) (R : Region) (row : ℕ) (cube : Cube) (lent lent₁
   unfolding tally_entering
   entered_counting =
       record {
-        samples = c.samples;
-        octants = c.octants;
         small = c.small;
         limits =
             subst (TallyWithin (sample_budget current ws) (octant_limit current os)) (sym said)

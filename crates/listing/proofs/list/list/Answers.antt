@@ -11,10 +11,7 @@ returns-then-room-how_many c =
 
 pub write-requires : goal.write-requires
 write-requires c =
-    record {
-      headed = c.requires;
-      room = elim c.if-room-sample_budget.branch [
-        | then-room-sample_budget+else-room-how_many w ↦ omega (arith, w.how_many.ensures, w.if-room-how_many.false)
-        | else-room-sample_budget w ↦ omega (arith, w.if-room-sample_budget.false, c.sample_budget.ensures.is, tags_budget c.args.samples.now c.args.octants.now c.args.region)
-      ];
-    }
+    elim c.if-room-sample_budget.branch [
+      | then-room-sample_budget+else-room-how_many w ↦ omega (arith, w.how_many.ensures, w.if-room-how_many.false)
+      | else-room-sample_budget w ↦ omega (arith, w.if-room-sample_budget.false, c.sample_budget.ensures.is, tags_budget c.args.tables.now.samples.now c.args.tables.now.octants.now c.args.region)
+    ]

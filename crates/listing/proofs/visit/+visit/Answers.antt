@@ -14,7 +14,7 @@ use Rattle.listing.proofs.Laws.Steps.Visiting.{allowed_row, entered_counting, ow
 use Rattle.listing.proofs.visit.+visit.Goals as goal
 use Rattle.listing.proofs.visit.+visit.Goals.{After-enter, Else-ends, After-parent_of-parent, After-first-k, After-may_enter}
 
-after_enter : (t : ℕ) (c : After-enter t) → Counting c.args.samples.now c.args.octants.now c.enter.new.self
+after_enter : (t : ℕ) (c : After-enter t) → Counting c.args.tables.now.samples.now c.args.tables.now.octants.now c.enter.new.self
 after_enter t c =
     let p = c.requires in
     entered_counting _ _ c.args.region _ _ _ _ p.within p.counting p.next_bound.0 p.next_bound.1 c.enter.ensures
@@ -31,13 +31,13 @@ halved t c = c.parent_of-parent.result.halved ∙ ap (λ (x : Cube). side_at (su
 
 -- The child that is next.
 found : (t : ℕ) (c : After-first-k t)
-    → First (meets c.args.samples.now c.args.octants.now c.args.region (16 - c.args.cube.depth - 1) c.args.row c.args.cube.low)
+    → First (meets c.args.tables.now.samples.now c.args.tables.now.octants.now c.args.region (16 - c.args.cube.depth - 1) c.args.row c.args.cube.low)
     c.loop-left.invariant.done 8 c.loop-left.left c.first-k.result
 found t c = is_first _ _ _ _ _ _ c.loop-left.invariant c.loop-left-test.true _ c.first-k.ensures
 
 -- Whether it may be entered.
 permitted : (t : ℕ) (c : After-may_enter t)
-    → allowed c.args.samples.now c.args.octants.now c.args.region (16 - c.args.cube.depth - 1) c.args.row c.args.cube.low
+    → allowed c.args.tables.now.samples.now c.args.tables.now.octants.now c.args.region (16 - c.args.cube.depth - 1) c.args.row c.args.cube.low
     c.first-k.result (tally_in c.loop-left.tally)
     ≡ c.may_enter.result
 permitted t c =
@@ -54,7 +54,7 @@ inside-whole-requires t c = c.requires.within
 
 pub ends-requires : goal.ends-requires
 unfolding depths
-ends-requires t c = (c.requires.counting.samples, (limit_rows _ _ c.requires.next_bound.1, c.requires.within.depth))
+ends-requires t c = (limit_rows _ _ c.requires.next_bound.1, c.requires.within.depth)
 
 pub own_samples-requires : goal.own_samples-requires
 own_samples-requires t c =
@@ -65,9 +65,6 @@ returns-then-ends t c =
     let p = c.requires in
     own_visited _ _ _ _ _ _ _ p.within p.counting p.next_bound.0 p.next_bound.1 c.enter.ensures c.inside-whole.result c.ends.result
     c.inside-whole.ensures c.ends.ensures c.if-ends.true c.own_samples.ensures
-
-pub octant_limit-limit-requires : goal.octant_limit-limit-requires
-octant_limit-limit-requires t c = c.requires.counting.octants
 
 pub parent_of-parent-requires : goal.parent_of-parent-requires
 parent_of-parent-requires t c =

@@ -8,7 +8,7 @@ decreases-visit l = 16 - l.cube.depth
 
 abbrev pub invariant-loop-left : goal.invariant-loop-left
 invariant-loop-left l =
-    Turning l.samples l.octants l.region (16 - l.fn.cube.depth - 1) l.row l.fn.cube.low l.initial.tally l.initial.listing l.left l.tally l.listing
+    Turning l.tables.samples.now l.tables.octants.now l.region (16 - l.fn.cube.depth - 1) l.row l.fn.cube.low l.initial.tally l.initial.listing l.left l.tally l.listing
 
 abbrev pub decreases-loop-left : goal.decreases-loop-left
 decreases-loop-left l = l.left

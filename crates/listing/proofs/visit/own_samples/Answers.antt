@@ -8,7 +8,7 @@ use Rattle.listing.proofs.visit.own_samples.Goals as goal
 
 pub most-most-requires : goal.most-most-requires
 most-most-requires c =
-    let k = c.requires.counting in record { headed = (k.samples, limit_rows _ _ c.requires.row_bound); visited_bound = k.limits.visited }
+    record { row_bound = limit_rows _ _ c.requires.row_bound; visited_bound = c.requires.counting.limits.visited }
 
 pub octant_first-requires : goal.octant_first-requires
 octant_first-requires c =
@@ -23,7 +23,7 @@ pub count-requires : goal.count-requires
 count-requires c =
     let k = c.requires.counting in
     let room = own_room _ _ c.args.region c.args.whole _ c.args.tally.now _ _ _ c.octant_first.ensures c.most-most.ensures c.follow-run.ensures.seen k.limits.visited in
-    (k.limits.measured, omega (arith, room, budget_most c.args.samples.now))
+    (k.limits.measured, omega (arith, room, budget_most c.args.tables.now.samples.now))
 
 pub returns : goal.returns
 returns c =

@@ -11,11 +11,11 @@ use Rattle.near_path.proofs.leaf.own.Goals as goal
 
 pub overflow_cast-search : goal.overflow_cast-search
 overflow_cast-search c =
-    omega (arith, c.requires.ready.limits.visited, budget_most c.args.samples.now)
+    omega (arith, c.requires.ready.limits.visited, budget_most c.args.tables.now.samples.now)
 
 pub most-count-requires : goal.most-count-requires
 most-count-requires c =
-    let pre = c.requires in record { headed = (pre.ready.samples, limit_rows _ _ pre.octant_bound); visited_bound = omega (arith, pre.ready.limits.visited) }
+    let pre = c.requires in record { row_bound = limit_rows _ _ pre.octant_bound; visited_bound = omega (arith, pre.ready.limits.visited) }
 
 pub octant_first-first-requires : goal.octant_first-first-requires
 octant_first-first-requires c =
@@ -23,12 +23,12 @@ octant_first-first-requires c =
 
 pub take-requires : goal.take-requires
 take-requires c =
-    omega (arith, c.requires.ready.limits.visited, budget_most c.args.samples.now)
+    omega (arith, c.requires.ready.limits.visited, budget_most c.args.tables.now.samples.now)
 
 pub returns : goal.returns
 returns c =
-    let ws = c.args.samples.now in
-    let os = c.args.octants.now in
+    let ws = c.args.tables.now.samples.now in
+    let os = c.args.tables.now.octants.now in
     let fine : Fine c.args.p = record { centre = record { red = search rules; green = search rules; blue = search rules } } in
     c.take.ensures
     ∙ ap search_as

@@ -41,7 +41,7 @@ far_is : (p : Probe) (half half' : ℕ) (cube cube' : Cube) {far : Squares} → 
     → far ≡ far_of p half cube.low
 far_is p half half' cube cube' e h c = e ∙ ap₂ (λ (s : ℕ) (x : Cube). far_of p s x.low) h c
 
-turning : (t : ℕ) (c : siblings-In-loop-left t) → SearchReady c.args.samples.now c.args.octants.now (search_in c.loop-left.search)
+turning : (t : ℕ) (c : siblings-In-loop-left t) → SearchReady c.args.tables.now.samples.now c.args.tables.now.octants.now (search_in c.loop-left.search)
 turning t c = still_ready c.requires.ready c.loop-left.invariant.limits
 
 -- The sibling that is next, and what is told of its turn.
@@ -49,15 +49,15 @@ found : (t : ℕ) (c : siblings-After-first-turn t)
     → First (turn_within (search_in c.args.search.now).kept.distance c.args.spot.near c.far_of-far.result) c.loop-left.invariant.done 8 c.loop-left.left
     c.first-turn.result
 found t c =
-    next_is (known c.args.samples.now c.args.search.now c.requires.forked.0 (far_is c.args.p _ _ c.args.spot.cube _ c.far_of-far.ensures c.parent_at.ensures.half c.parent_at.ensures.cube)) c.loop-left.invariant c.loop-left-test.true
+    next_is (known c.args.tables.now.samples.now c.args.search.now c.requires.forked.0 (far_is c.args.p _ _ c.args.spot.cube _ c.far_of-far.ensures c.parent_at.ensures.half c.parent_at.ensures.cube)) c.loop-left.invariant c.loop-left-test.true
     c.first-turn.ensures
 
 told : (t : ℕ) (c : siblings-After-reaches t)
-    → Told (bests c.args.samples.now c.args.p) c.args.samples.now c.args.octants.now c.args.p c.args.row c.args.spot c.first-turn.result
+    → Told (bests c.args.tables.now.samples.now c.args.p) c.args.tables.now.samples.now c.args.tables.now.octants.now c.args.p c.args.row c.args.spot c.first-turn.result
     (search_in c.loop-left.search) c.child_at-next.result c.sibling_spot-to.result c.reaches.result
 told t c =
-    turn_told (c.child_at-next.ensures ∙ ap (child_at c.args.octants.now c.args.row) (kid_turn c.requires.forked.0 _)) c.sibling_spot-to.ensures
-    c.sum_by.ensures c.octant_limit-limit.ensures (c.reaches.ensures c.args.samples.now c.args.p)
+    turn_told (c.child_at-next.ensures ∙ ap (child_at c.args.tables.now.octants.now c.args.row) (kid_turn c.requires.forked.0 _)) c.sibling_spot-to.ensures
+    c.sum_by.ensures c.octant_limit-limit.ensures (c.reaches.ensures c.args.tables.now.samples.now c.args.p)
 
 pub siblings-turns-left-requires : goal.siblings-turns-left-requires
 siblings-turns-left-requires t c = far_rising c.requires.forked.0 (far_is c.args.p _ _ c.args.spot.cube _ c.far_of-far.ensures c.parent_at.ensures.half c.parent_at.ensures.cube)
@@ -96,7 +96,7 @@ siblings-loop-left-smaller-then-reaches t c =
 pub siblings-loop-left-preserved-then-reaches : goal.siblings-loop-left-preserved-then-reaches
 siblings-loop-left-preserved-then-reaches t c =
     let at = goal.at.siblings-loop-left-preserved-then-reaches t c in
-    turning_visited (known c.args.samples.now c.args.search.now c.requires.forked.0 (far_is c.args.p _ _ c.args.spot.cube _ c.far_of-far.ensures c.parent_at.ensures.half c.parent_at.ensures.cube)) c.loop-left.invariant c.loop-left-test.true
+    turning_visited (known c.args.tables.now.samples.now c.args.search.now c.requires.forked.0 (far_is c.args.p _ _ c.args.spot.cube _ c.far_of-far.ensures c.parent_at.ensures.half c.parent_at.ensures.cube)) c.loop-left.invariant c.loop-left-test.true
     c.first-turn.ensures c.without-left.ensures (subst (Told _ _ _ _ _ _ _ _ _ _) c.if-reaches.true (told t at.After-reaches)) (ap search_in c.visit.ensures)
 
 pub siblings-loop-left-smaller : goal.siblings-loop-left-smaller
@@ -107,13 +107,13 @@ siblings-loop-left-smaller t c =
 pub siblings-loop-left-preserved : goal.siblings-loop-left-preserved
 siblings-loop-left-preserved t c =
     let at = goal.at.siblings-loop-left-preserved t c in
-    turning_barred (known c.args.samples.now c.args.search.now c.requires.forked.0 (far_is c.args.p _ _ c.args.spot.cube _ c.far_of-far.ensures c.parent_at.ensures.half c.parent_at.ensures.cube)) c.loop-left.invariant c.loop-left-test.true
+    turning_barred (known c.args.tables.now.samples.now c.args.search.now c.requires.forked.0 (far_is c.args.p _ _ c.args.spot.cube _ c.far_of-far.ensures c.parent_at.ensures.half c.parent_at.ensures.cube)) c.loop-left.invariant c.loop-left-test.true
     c.first-turn.ensures c.without-left.ensures (subst (Told _ _ _ _ _ _ _ _ _ _) c.if-reaches.false (told t at.After-reaches))
 
 pub siblings-returns : goal.siblings-returns
 siblings-returns t c =
     ap search_as
-    (turning_ends (known c.args.samples.now c.args.search.now c.requires.forked.0 (far_is c.args.p _ _ c.args.spot.cube _ c.far_of-far.ensures c.parent_at.ensures.half c.parent_at.ensures.cube)) c.loop-left.invariant c.loop-left-test.false)
+    (turning_ends (known c.args.tables.now.samples.now c.args.search.now c.requires.forked.0 (far_is c.args.p _ _ c.args.spot.cube _ c.far_of-far.ensures c.parent_at.ensures.half c.parent_at.ensures.cube)) c.loop-left.invariant c.loop-left-test.false)
 
 -- Where the children of an octant are gone through.
 parted : {p : Probe} {spot : Spot} {fork : Fork} → (Stood p spot) × (spot.cube.depth < 16) → fork ≡ fork_of p spot.cube → Forked p spot fork
@@ -121,19 +121,19 @@ parted s e = record { stood = s.0; deep = s.1; is = e }
 
 -- What is told of turn 0.
 closest : (t : ℕ) (c : split-After-reaches t)
-    → Told (bests c.args.samples.now c.args.p) c.args.samples.now c.args.octants.now c.args.p c.args.row c.args.spot 0 (search_in c.args.search.now)
+    → Told (bests c.args.tables.now.samples.now c.args.p) c.args.tables.now.samples.now c.args.tables.now.octants.now c.args.p c.args.row c.args.spot 0 (search_in c.args.search.now)
     c.child_at-next.result c.closest_spot-to.result c.reaches.result
 closest t c =
     turn_told
-    (c.child_at-next.ensures ∙ ap (child_at c.args.octants.now c.args.row) (kid_first (parted c.requires.stood c.fork_of-fork.ensures)))
-    c.closest_spot-to.ensures c.sum_by.ensures c.octant_limit.ensures (c.reaches.ensures c.args.samples.now c.args.p)
+    (c.child_at-next.ensures ∙ ap (child_at c.args.tables.now.octants.now c.args.row) (kid_first (parted c.requires.stood c.fork_of-fork.ensures)))
+    c.closest_spot-to.ensures c.sum_by.ensures c.octant_limit.ensures (c.reaches.ensures c.args.tables.now.samples.now c.args.p)
 
 -- Whether or not it was entered, turn 0 was taken.
 first_turn : (t : ℕ) (c : split-Joined-reaches t)
-    → Told (bests c.args.samples.now c.args.p) c.args.samples.now c.args.octants.now c.args.p c.args.row c.args.spot 0 (search_in c.args.search.now)
+    → Told (bests c.args.tables.now.samples.now c.args.p) c.args.tables.now.samples.now c.args.tables.now.octants.now c.args.p c.args.row c.args.spot 0 (search_in c.args.search.now)
     c.child_at-next.result c.closest_spot-to.result c.reaches.result
     → c.if-reaches.search
-    ≡ search_after (turn_at (bests c.args.samples.now c.args.p) c.args.samples.now c.args.octants.now c.args.p c.args.row c.args.spot 0) c.args.search.now
+    ≡ search_after (turn_at (bests c.args.tables.now.samples.now c.args.p) c.args.tables.now.samples.now c.args.tables.now.octants.now c.args.p c.args.row c.args.spot 0) c.args.search.now
 first_turn t c d =
     elim c.if-reaches.branch [
       | split-then-reaches w ↦
@@ -165,7 +165,7 @@ split-siblings-requires t c =
       (
         (parted c.requires.stood c.fork_of-fork.ensures, c.requires.row_bound),
         lent_ready c.requires.ready _ (first_turn t at.Joined-reaches (closest t at.After-reaches))
-            (turn_at_within (bests c.args.samples.now c.args.p) c.args.samples.now c.args.octants.now c.args.p c.args.row c.args.spot 0 c.requires.ready.limits),
+            (turn_at_within (bests c.args.tables.now.samples.now c.args.p) c.args.tables.now.samples.now c.args.tables.now.octants.now c.args.p c.args.row c.args.spot 0 c.requires.ready.limits),
       ),
     )
 
@@ -174,29 +174,29 @@ unfolding split_at
 split-returns t c =
     let at = goal.at.split-returns t c in
     c.siblings.ensures
-    ∙ ap (λ (u : Searching Kept). search_as (siblings_at (bests c.args.samples.now c.args.p) c.args.samples.now c.args.octants.now c.args.p c.args.row c.args.spot u))
+    ∙ ap (λ (u : Searching Kept). search_as (siblings_at (bests c.args.tables.now.samples.now c.args.p) c.args.tables.now.samples.now c.args.tables.now.octants.now c.args.p c.args.row c.args.spot u))
     (ap search_in (first_turn t at.Joined-reaches (closest t at.After-reaches)))
 
 -- What is lent once the octant is entered.
 went_in : (t : ℕ) (c : visit-After-enter t) → search_in c.enter.new.self ≡ search_entering (search_in c.args.search.now)
 went_in t c = ap search_in c.enter.ensures
 
-still : (t : ℕ) (c : visit-After-enter t) → SearchReady c.args.samples.now c.args.octants.now (search_in c.enter.new.self)
+still : (t : ℕ) (c : visit-After-enter t) → SearchReady c.args.tables.now.samples.now c.args.tables.now.octants.now (search_in c.enter.new.self)
 still t c =
     lent_ready c.requires.ready _ c.enter.ensures
-    (entering_within (bests c.args.samples.now c.args.p) c.args.samples.now c.args.octants.now c.args.p _ c.requires.search_bound c.requires.ready.limits)
+    (entering_within (bests c.args.tables.now.samples.now c.args.p) c.args.tables.now.samples.now c.args.tables.now.octants.now c.args.p _ c.requires.search_bound c.requires.ready.limits)
 
 pub visit-ends-requires : goal.visit-ends-requires
 unfolding depths
-visit-ends-requires t c = (c.requires.ready.samples, (limit_rows _ _ c.requires.stood.1, c.requires.stood.0.within.depth))
+visit-ends-requires t c = (limit_rows _ _ c.requires.stood.1, c.requires.stood.0.within.depth)
 
 pub visit-own-requires-clause-ready : goal.visit-own-requires-clause-ready
 visit-own-requires-clause-ready t c = still t (goal.at.visit-own-requires-clause-ready t c).After-enter
 
 pub visit-returns-then-ends : goal.visit-returns-then-ends
 visit-returns-then-ends t c =
-    let ws = c.args.samples.now in
-    let os = c.args.octants.now in
+    let ws = c.args.tables.now.samples.now in
+    let os = c.args.tables.now.octants.now in
     c.own.ensures
     ∙ ap search_as
     (ap (own_search (bests ws c.args.p) ws os c.args.row) (went_in t (goal.at.visit-returns-then-ends t c).After-enter)
@@ -204,8 +204,8 @@ visit-returns-then-ends t c =
 
 pub visit-split-requires : goal.visit-split-requires
 visit-split-requires t c =
-    let ws = c.args.samples.now in
-    let os = c.args.octants.now in
+    let ws = c.args.tables.now.samples.now in
+    let os = c.args.tables.now.octants.now in
     let deep = search_deep (bests ws c.args.p) ws os c.args.p c.args.row c.args.spot (search_in c.args.search.now) (sym c.ends.ensures ∙ c.if-ends.false) in (
       omega (arith, c.decreases),
       ((c.requires.stood.0, deep), (c.requires.stood.1, still t (goal.at.visit-split-requires t c).After-enter)),
@@ -213,8 +213,8 @@ visit-split-requires t c =
 
 pub visit-returns : goal.visit-returns
 visit-returns t c =
-    let ws = c.args.samples.now in
-    let os = c.args.octants.now in
+    let ws = c.args.tables.now.samples.now in
+    let os = c.args.tables.now.octants.now in
     c.split.ensures
     ∙ ap search_as
     (ap (split_at (bests ws c.args.p) ws os c.args.p c.args.row c.args.spot) (went_in t (goal.at.visit-returns t c).After-enter)

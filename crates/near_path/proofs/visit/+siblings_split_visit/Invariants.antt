@@ -17,7 +17,7 @@ decreases-visit l = suc (suc (3 * (16 - l.spot.cube.depth)))
 
 abbrev pub invariant-siblings-loop-left : goal.invariant-siblings-loop-left
 invariant-siblings-loop-left l =
-    Turning (bests l.samples l.p) l.samples l.octants l.p l.row l.spot l.far (search_in l.initial.search).kept.distance (search_in l.initial.search) l.left
+    Turning (bests l.tables.samples.now l.p) l.tables.samples.now l.tables.octants.now l.p l.row l.spot l.far (search_in l.initial.search).kept.distance (search_in l.initial.search) l.left
     (search_in l.search)
 
 abbrev pub decreases-siblings-loop-left : goal.decreases-siblings-loop-left

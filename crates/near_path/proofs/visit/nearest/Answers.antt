@@ -20,18 +20,18 @@ visit-requires c =
     let l = c.octant_limit in
     let squared = c.square.ensures in
     let started = c.new-search.ensures in
-    let ws = c.args.samples.now in
-    let os = c.args.octants.now in
+    let ws = c.args.tables.now.samples.now in
+    let os = c.args.tables.now.octants.now in
     let there : 0 < octant_limit current os = omega (arith, l.ensures, c.if-octant_limit-gt0.true) in
     let fine : Fine c.args.p = record { centre = record { red = search rules; green = search rules; blue = search rules } } in
-    record { stood = (subst (Stood c.args.p) (sym c.root_spot.ensures) (root_stood c.args.p fine), there); ready = begin_ready ws os c.args.p c.args.radius squared started c.requires.headed.0 c.requires.headed.1 (omega (arith, l.ensures, l.type_inv)); search_bound = begin_room ws os c.args.p c.args.radius squared started there }
+    record { stood = (subst (Stood c.args.p) (sym c.root_spot.ensures) (root_stood c.args.p fine), there); ready = begin_ready ws os c.args.p c.args.radius squared started (omega (arith, l.ensures, l.type_inv)); search_bound = begin_room ws os c.args.p c.args.radius squared started there }
 
 pub returns : goal.returns
 unfolding best_found
 returns c =
     let l = c.octant_limit in
-    let ws = c.args.samples.now in
-    let os = c.args.octants.now in
+    let ws = c.args.tables.now.samples.now in
+    let os = c.args.tables.now.octants.now in
     let squared = c.square.ensures in
     let started = c.new-search.ensures in
     let found : search_in c.if-octant_limit-gt0.search ≡ search_best ws os c.args.p c.args.radius =

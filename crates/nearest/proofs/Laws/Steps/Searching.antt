@@ -17,7 +17,7 @@ use Rattle.colour.specs.Octant.{depths, side_at, children, child_low, child_cube
 use Rattle.colour.specs.Region.{closest}
 use Rattle.colour.specs.Nearby.{closest_child, gaps_of, closest_by}
 use Rattle.colour.proofs.Laws.Nearby.{closest_by_lem}
-use Rattle.model.specs.Layout.{First, Count, Child, current, sample_header, octant_header}
+use Rattle.model.specs.Layout.{First, Count, Child, current}
 use Rattle.words.specs.Rows.{settings_in, octant_field, octant_limit, sample_budget}
 use Rattle.traversal.specs.Own.{rows_from, own_most, own_rows, ends_at}
 use Rattle.traversal.proofs.Laws.Rows.{own_few}
@@ -74,8 +74,6 @@ module _ (ws os : List ℕ) (c : Colour) (row : ℕ) (low : Colour) where
   pub entering_ready : (s : Search) → Ready ws os s → s.entered < octant_limit current os → Ready ws os (search_entering s)
   entering_ready s r h =
       record {
-        samples = r.samples;
-        octants = r.octants;
         small = r.small;
         limits = entering_within (sample_budget current ws) (octant_limit current os) s h r.limits;
       }
@@ -84,8 +82,6 @@ module _ (ws os : List ℕ) (c : Colour) (row : ℕ) (low : Colour) where
   pub turns_ready : (j m : ℕ) (s : Search) → Ready ws os s → Ready ws os (in_turn (turn_at j) m s)
   turns_ready j m s r =
       record {
-        samples = r.samples;
-        octants = r.octants;
         small = r.small;
         limits =
             turns_within (sample_budget current ws) (octant_limit current os) (turn_at j)
@@ -176,7 +172,7 @@ module _ (ws os : List ℕ) (c : Colour) (r : ℕ) where
   from_root h = rw (lt-ltb 0 (octant_limit current os) h, search_all)
 
   -- The root is entered within the bounds.
-  pub starting : sample_header current ≤ length ws → octant_header current ≤ length os → octant_limit current os < 4294967296 → 0 < octant_limit current os
+  pub starting : octant_limit current os < 4294967296 → 0 < octant_limit current os
       → (Ready ws os (no_search r)) × ((no_search r).entered < octant_limit current os)
   unfolding no_search
-  starting a b l h = (record { samples = a; octants = b; small = l; limits = no_search_within ws os c r }, h)
+  starting l h = (record { small = l; limits = no_search_within ws os c r }, h)

@@ -7,7 +7,7 @@ use Rattle.nearest.proofs.search.own.Goals as goal
 
 pub most-count-requires : goal.most-count-requires
 most-count-requires c =
-    record { headed = (c.requires.ready.samples, limit_rows _ _ c.requires.row_bound); visited_bound = c.requires.ready.limits.visited }
+    record { row_bound = limit_rows _ _ c.requires.row_bound; visited_bound = c.requires.ready.limits.visited }
 
 pub octant_first-first-requires : goal.octant_first-first-requires
 octant_first-first-requires c =
@@ -15,7 +15,7 @@ octant_first-first-requires c =
 
 pub overflow_add-result : goal.overflow_add-result
 overflow_add-result c =
-    omega (arith, own_room _ _ _ _ c.args.search _ _ c.octant_first-first.ensures c.most-count.ensures c.measure-run.ensures c.requires.ready.limits.visited, budget_most c.args.samples.now)
+    omega (arith, own_room _ _ _ _ c.args.search _ _ c.octant_first-first.ensures c.most-count.ensures c.measure-run.ensures c.requires.ready.limits.visited, budget_most c.args.tables.now.samples.now)
 
 pub returns : goal.returns
 returns c =

@@ -15,9 +15,9 @@ use Rattle.nearest.proofs.Laws.Steps.Searching.{search_own, search_turns, enteri
 use Rattle.nearest.proofs.visit.+visit.Goals as goal
 use Rattle.nearest.proofs.visit.+visit.Goals.{After-enter-search, After-closest_child-first, After-gaps_of-gaps, Else-ends, After-parent_of-parent, then-reaches, else-reaches}
 
-entered : (t : ℕ) (c : After-enter-search t) → Ready c.args.samples.now c.args.octants.now c.enter-search.result
+entered : (t : ℕ) (c : After-enter-search t) → Ready c.args.tables.now.samples.now c.args.tables.now.octants.now c.enter-search.result
 entered t c =
-    subst (Ready c.args.samples.now c.args.octants.now) (sym c.enter-search.ensures)
+    subst (Ready c.args.tables.now.samples.now c.args.tables.now.octants.now) (sym c.enter-search.ensures)
     (entering_ready _ _ c.args.centre c.args.row c.args.cube.low _ c.requires.ready c.requires.row_bound.1)
 
 -- A split octant has depths below it, and its children have half its side.
@@ -39,7 +39,7 @@ enter-search-requires t c = omega (arith, c.requires.ready.small, c.requires.row
 
 pub ends-requires : goal.ends-requires
 unfolding depths
-ends-requires t c = (c.requires.ready.samples, (limit_rows _ _ c.requires.row_bound.0, c.requires.within.depth))
+ends-requires t c = (limit_rows _ _ c.requires.row_bound.0, c.requires.within.depth)
 
 pub own-requires : goal.own-requires
 own-requires t c =
@@ -50,9 +50,6 @@ returns-then-ends t c =
     c.own.ensures
     ∙ ap (own_search _ _ _ _) c.enter-search.ensures
     ∙ sym (search_own _ _ _ _ _ _ _ (sym c.ends.ensures ∙ c.if-ends.true))
-
-pub octant_limit-limit-requires : goal.octant_limit-limit-requires
-octant_limit-limit-requires t c = c.requires.ready.octants
 
 pub parent_of-parent-requires : goal.parent_of-parent-requires
 parent_of-parent-requires t c =
@@ -68,8 +65,8 @@ octant_child-next-requires t c =
 pub visit-search-requires : goal.visit-search-requires
 visit-search-requires t c =
     let at = goal.at.visit-search-requires t c in
-    let turning = subst (Ready c.args.samples.now c.args.octants.now) (sym c.loop-turn.invariant) (turns_ready _ _ _ _ _ _ _ _ (entered t at.After-enter-search)) in
-    let w = turn_row c.args.samples.now _ _ _ c.args.cube _ (halved t at.After-parent_of-parent) _ c.loop-turn.search _ _ _ _ _ _ (first_is t at.After-closest_child-first) c.octant_limit-limit.ensures
+    let turning = subst (Ready c.args.tables.now.samples.now c.args.tables.now.octants.now) (sym c.loop-turn.invariant) (turns_ready _ _ _ _ _ _ _ _ (entered t at.After-enter-search)) in
+    let w = turn_row c.args.tables.now.samples.now _ _ _ c.args.cube _ (halved t at.After-parent_of-parent) _ c.loop-turn.search _ _ _ _ _ _ (first_is t at.After-closest_child-first) c.octant_limit-limit.ensures
     (gaps_are t at.After-gaps_of-gaps) c.octant_child-next.ensures refl c.reaches.ensures c.if-reaches.true in (
       omega (arith, c.decreases, deep_at t at.Else-ends, child_depth c.args.cube _ _ (c.child.ensures.is ∙ ap (λ (x : Cube). child_cube x (bit_xor c.closest_child-first.result c.loop-turn.turn)) c.parent_of-parent.ensures)),
       (c.child.ensures.within, (turning, w)),

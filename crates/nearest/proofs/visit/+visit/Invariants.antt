@@ -10,4 +10,4 @@ decreases-visit l = 16 - l.cube.depth
 
 abbrev pub invariant-loop-turn : goal.invariant-loop-turn
 invariant-loop-turn l =
-    l.search ≡ in_turn (turn_at l.samples l.octants l.centre l.row l.fn.cube.low (16 - l.fn.cube.depth - 1)) l.turn l.initial.search
+    l.search ≡ in_turn (turn_at l.tables.samples.now l.tables.octants.now l.centre l.row l.fn.cube.low (16 - l.fn.cube.depth - 1)) l.turn l.initial.search

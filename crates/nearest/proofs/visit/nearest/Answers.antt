@@ -16,21 +16,21 @@ pub returns-then-octant_limit-eq0 : goal.returns-then-octant_limit-eq0
 returns-then-octant_limit-eq0 c =
     let s = c.args in
     let limit = c.octant_limit.ensures in
-    ap (λ (x : Search). x.best) (c.start-none.ensures ∙ sym (no_root s.samples.now s.octants.now s.centre s.radius (sym limit ∙ c.if-octant_limit-eq0.true)))
+    ap (λ (x : Search). x.best) (c.start-none.ensures ∙ sym (no_root s.tables.now.samples.now s.tables.now.octants.now s.centre s.radius (sym limit ∙ c.if-octant_limit-eq0.true)))
 
 pub visit-found-requires : goal.visit-found-requires
 visit-found-requires c =
     let l = c.octant_limit in
-    let there : 0 < octant_limit current c.args.octants.now = omega (arith, l.ensures, c.if-octant_limit-eq0.false) in
-    let r = starting c.args.samples.now c.args.octants.now c.args.centre c.args.radius c.requires.headed.0 c.requires.headed.1 (omega (arith, l.ensures, l.type_inv)) there in record { within = c.root.ensures.within; ready = subst (Ready c.args.samples.now c.args.octants.now) (sym c.start-none.ensures) r.0; row_bound = (there, subst (λ (x : Search). x.entered < octant_limit current c.args.octants.now) (sym c.start-none.ensures) r.1) }
+    let there : 0 < octant_limit current c.args.tables.now.octants.now = omega (arith, l.ensures, c.if-octant_limit-eq0.false) in
+    let r = starting c.args.tables.now.samples.now c.args.tables.now.octants.now c.args.centre c.args.radius (omega (arith, l.ensures, l.type_inv)) there in record { within = c.root.ensures.within; ready = subst (Ready c.args.tables.now.samples.now c.args.tables.now.octants.now) (sym c.start-none.ensures) r.0; row_bound = (there, subst (λ (x : Search). x.entered < octant_limit current c.args.tables.now.octants.now) (sym c.start-none.ensures) r.1) }
 
 pub returns : goal.returns
 unfolding root_cube depths
 returns c =
     let s = c.args in
     let l = c.octant_limit in
-    let t = s.samples.now in
-    let o = s.octants.now in
+    let t = s.tables.now.samples.now in
+    let o = s.tables.now.octants.now in
     ap (λ (x : Search). x.best)
     (c.visit-found.ensures
     ∙ ap₂ (λ (x : Cube) (y : Search). search_of t o s.centre (16 - x.depth) 0 x.low y) c.root.ensures.is c.start-none.ensures

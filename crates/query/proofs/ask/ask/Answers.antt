@@ -7,7 +7,6 @@ use Rattle.colour.proofs.Laws.Refused.{passed_on}
 use Rattle.query.specs.declared.answers.Reply.{Reply}
 use Rattle.model.specs.Meets.{lists}
 use Rattle.model.specs.Sound.{long_enough}
-use Rattle.octree.proofs.Laws.Tables.Check.{both_long}
 use Rattle.nearest.specs.declared.best.Best.{Best}
 use Rattle.nearest.specs.Best.{best_answer}
 use Rattle.query.specs.Answers.{reply_answer, of_kind, raw_wanted}
@@ -19,18 +18,6 @@ pub returns-then-not-long_enough : goal.returns-then-not-long_enough
 unfolding long_enough
 returns-then-not-long_enough c =
     let both = reply_meets _ _ _ _ _ _ (short_named _ _ _ (sym c.long_enough.ensures ∙ c.if-not-long_enough.true)) (refusal_kind _ _) in record { meets = both.0; bounds = both.1.0; kind = both.1.1 }
-
-pub list-requires : goal.list-requires
-unfolding long_enough
-list-requires c =
-    let long = sym c.long_enough.ensures ∙ c.if-not-long_enough.false in
-    let s = c.args in both_long s.samples.now s.octants.now long
-
-pub nearest-best-requires : goal.nearest-best-requires
-unfolding long_enough
-nearest-best-requires c =
-    let long = sym c.long_enough.ensures ∙ c.if-not-long_enough.false in
-    let s = c.args in record { headed = both_long s.samples.now s.octants.now long }
 
 pub returns-in-Listed : goal.returns-in-Listed
 unfolding long_enough raw_wanted

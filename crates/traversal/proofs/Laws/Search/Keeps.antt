@@ -111,7 +111,7 @@ module _ {S : Type 0} (K : Store S) (ws os : List ℕ) (p : Probe) where
 -- So what is known of one search is known of a later one.
 pub still_ready : {S : Type 0} {ws os : List ℕ} {u s : Searching S} → SearchReady ws os u → SearchWithin (sample_budget current ws) (octant_limit current os) s
     → SearchReady ws os s
-still_ready r h = record { samples = r.samples; octants = r.octants; small = r.small; limits = h }
+still_ready r h = record { small = r.small; limits = h }
 
 -- A store in which what does not come before what is kept still does not once an octant's own samples are measured, whatever they are.
 pub record Steady {S : Type 0} (K : Store S) : Type 0 where

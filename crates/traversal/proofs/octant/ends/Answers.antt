@@ -34,4 +34,4 @@ returns-then-depth-eq-DEPTHS c =
 pub returns : goal.returns
 returns c =
     rw c.if-whole.false
-    (ap₂ leb c.octant_count.ensures (ap (λ (x : Settings). x.bucket) c.settings-settings.ensures) ∙ sym (ends_by _ _ _ (omega (arith, c.if-depth-eq-DEPTHS.false, c.requires.1.1))))
+    (ap₂ leb c.octant_count.ensures (ap (λ (x : Settings). x.bucket) c.settings-settings.ensures) ∙ sym (ends_by _ _ _ (omega (arith, c.if-depth-eq-DEPTHS.false, c.requires.1))))
