@@ -11,6 +11,7 @@ use listing::list::list;
 use samples::answers::Stop;
 use samples::clear::clear;
 use samples::load::load;
+use words::tables::Tables;
 
 // The most bytes that are read.
 pub const INPUT_LENGTH: usize = 32768;
@@ -33,13 +34,9 @@ fn put_order(samples: &[u32], octants: &[u32], text: &mut [u8]) -> usize
     ensures { OrderPrinted (tables_read samples octants) text.old text.new result }
 {
     let mut tags = [0u32; 512];
+    let all = Region::Box(Colour::all(0), Colour::all(65535));
     // There is room for the tags of all rows, so that none is refused.
-    let Ok(counts) = list(
-        samples,
-        octants,
-        Region::Box(Colour::all(0), Colour::all(65535)),
-        &mut tags,
-    ) else {
+    let Ok(counts) = list(&Tables { samples, octants }, all, &mut tags) else {
         return 0;
     };
     let lines = counts.listed as usize;
