@@ -6,15 +6,8 @@ ghost use Rattle.listing.specs.Steps.{Followed};
 
 use colour::overlap::holds;
 use colour::{Region, wrapped};
-use traversal::rows::rows_from;
+use traversal::rows::{Run, rows_from};
 use words::layout::{colour as colour_of, tag as tag_of};
-
-// Where a run of samples left the listing, and how many samples it saw.
-#[derive(Clone, Copy)]
-pub struct Run {
-    pub end: u32,
-    pub seen: u32,
-}
 
 // Whether the sample in a row is listed: each is where its octant is taken whole; else it is measured.
 fn takes(samples: &[u32], region: Region, whole: bool, row: usize) -> bool
@@ -37,7 +30,7 @@ fn put(listing: &mut [u32], at: u32, tag: u32)
     }
 }
 
-// Goes through count samples at most, from row first on, and lists from a start on. (8192 is twice the most samples: no sum overflows.)
+// Goes through count samples at most, from row first on, and lists from a start on: what it gathers is where the listing then ends. (8192 is twice the most samples: no sum overflows.)
 pub fn follow(
     samples: &[u32],
     region: Region,
@@ -46,7 +39,7 @@ pub fn follow(
     count: u32,
     listing: &mut [u32],
     start: u32,
-) -> Run
+) -> Run<u32>
     requires { start + count ≤ 8192 }
     ensures { Followed samples.now region whole first count start listing.old result listing.new }
 {
@@ -59,5 +52,8 @@ pub fn follow(
             end += 1;
         }
     }
-    Run { end, seen }
+    Run {
+        gathered: end,
+        seen,
+    }
 }

@@ -1,10 +1,10 @@
 -- What the functions under nearest by path ask and promise. No call's own promise cites these.
 use Rattle.std.specs.Prelude.{ℕ, ◌+◌, List, ◌≡◌, length}
 use Rattle.colour.specs.declared.Probe.{Probe}
+use Rattle.traversal.specs.declared.rows.Run.{Run}
 use Rattle.traversal.specs.Own.{rows_from}
 use Rattle.traversal.specs.Search.{Searching}
 use Rattle.near_path.specs.declared.best.Search.{Search}
-use Rattle.near_path.specs.declared.leaf.Run.{Run}
 use Rattle.near_path.specs.Best.{Kept, least_from, taken_rank, top_rank}
 
 -- A search as it is lent, and the search that this says.
@@ -24,6 +24,6 @@ unfoldable pub search_ranked : ℕ → ℕ → ℕ → Searching Kept → Search
 search_ranked octant rank seen s = record { kept = taken_rank s.kept octant rank; entered = s.entered; visited = s.visited + seen }
 
 -- A run of samples was measured.
-pub record Measured (ws : List ℕ) (p : Probe) (first count : ℕ) (r : Run) : Type 0 where
-  pub least : r.rank ≡ least_from ws p top_rank (rows_from ws count first)
+pub record Measured (ws : List ℕ) (p : Probe) (first count : ℕ) (r : Run ℕ) : Type 0 where
+  pub least : r.gathered ≡ least_from ws p top_rank (rows_from ws count first)
   pub seen : r.seen ≡ length (rows_from ws count first)

@@ -11,18 +11,11 @@ use crate::best::Search;
 use colour::distance::squared;
 use colour::{Probe, wrapped};
 use traversal::octant::most;
-use traversal::rows::rows_from;
+use traversal::rows::{Run, rows_from};
 use words::layout::{colour as colour_of, octant_first};
 use words::tables::Tables;
 
-// What a run of samples came to: the least rank, by how far and then by row, and how many samples it saw.
-#[derive(Clone, Copy)]
-pub struct Run {
-    pub rank: u64,
-    pub seen: u32,
-}
-
-// The rank of the sample in a row.
+// The rank of the sample in a row: by how far, and then by row.
 fn rank(samples: &[u32], p: Probe, row: usize) -> u64
     requires { row < sample_rows current (length samples.now) }
     ensures { result ≡ rank_of samples.now p row }
@@ -31,7 +24,7 @@ fn rank(samples: &[u32], p: Probe, row: usize) -> u64
 }
 
 // Goes through count samples at most, from row first on. The least rank needs no branch.
-fn measure(samples: &[u32], p: Probe, first: u32, count: u32) -> Run
+fn measure(samples: &[u32], p: Probe, first: u32, count: u32) -> Run<u64>
     ensures { Measured samples.now p first count result }
 {
     let mut seen: u32 = 0;
@@ -41,7 +34,10 @@ fn measure(samples: &[u32], p: Probe, first: u32, count: u32) -> Run
         let found = rank(samples, p, row);
         best = best.min(found);
     }
-    Run { rank: best, seen }
+    Run {
+        gathered: best,
+        seen,
+    }
 }
 
 // An entered octant's own samples.
@@ -55,5 +51,5 @@ pub fn own(tables: &Tables<'_>, p: Probe, octant: u32, search: &mut Search)
     let count = most(tables, octant, search.visited as u32);
     let first = octant_first(tables.octants, octant);
     let run = measure(tables.samples, p, first, count);
-    search.take(octant, run.rank, run.seen);
+    search.take(octant, run.gathered, run.seen);
 }

@@ -9,7 +9,7 @@ use crate::best::{Best, taken};
 use colour::distance::squared;
 use colour::{Codes, wrapped};
 use traversal::octant::most;
-use traversal::rows::rows_from;
+use traversal::rows::{Run, rows_from};
 use words::layout::{colour as colour_of, octant_first, tag as tag_of};
 use words::tables::Tables;
 
@@ -19,13 +19,6 @@ pub struct Search {
     pub best: Best,
     pub entered: u32,
     pub visited: u32,
-}
-
-// What a run of samples came to: the best after it, and how many samples it saw.
-#[derive(Clone, Copy)]
-pub struct Run {
-    pub best: Best,
-    pub seen: u32,
 }
 
 // The best, once the sample in a row is measured.
@@ -38,7 +31,14 @@ fn measure_row(samples: &[u32], centre: Codes, octant: u32, best: Best, row: usi
 }
 
 // Goes through count samples at most, from row first on.
-fn measure(samples: &[u32], centre: Codes, octant: u32, first: u32, count: u32, start: Best) -> Run
+fn measure(
+    samples: &[u32],
+    centre: Codes,
+    octant: u32,
+    first: u32,
+    count: u32,
+    start: Best,
+) -> Run<Best>
     ensures { Measured samples.now centre octant first count start result }
 {
     let mut seen: u32 = 0;
@@ -47,7 +47,10 @@ fn measure(samples: &[u32], centre: Codes, octant: u32, first: u32, count: u32, 
         seen += 1;
         best = measure_row(samples, centre, octant, best, row);
     }
-    Run { best, seen }
+    Run {
+        gathered: best,
+        seen,
+    }
 }
 
 // An entered octant's own samples.
@@ -60,7 +63,7 @@ pub fn own(tables: &Tables<'_>, centre: Codes, row: u32, search: Search) -> Sear
     let first = octant_first(tables.octants, row);
     let start = search.best;
     let run = measure(tables.samples, centre, row, first, count, start);
-    let best = run.best;
+    let best = run.gathered;
     Search {
         best,
         entered: search.entered,

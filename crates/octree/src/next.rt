@@ -1,4 +1,5 @@
-// The next words of the sample rows: each names the row that follows in the order.
+// The next words of the sample rows: each names the row that follows in the order. They are written and compared by a loop each: what the two share is
+// the row that follows, and a trait with its laws would be longer than both.
 ghost use Rattle.std.specs.Prelude.{◌<◌, true, ◌↔◌, ◌≡◌, length};
 ghost use Rattle.model.specs.Layout.{current};
 ghost use Rattle.words.specs.Rows.{first_samples};

@@ -20,7 +20,8 @@ use sheet::header::{line_at, read_header};
 use words::layout::{count as count_of, long_enough, sample_rows, settings as settings_of};
 
 // The most of the first rows, from `low` to `high`, that are a set which fits. As samples are added tags stay known and octants do not
-// get fewer, so halving finds the end; usually all rows fit, and that is asked first.
+// get fewer, so halving finds the end; usually all rows fit, and that is asked first. (The loop is by hand: the bounds come to meet from both sides, which
+// no iterator does, and `partition_point` halves slices only.)
 fn longest(samples: &[u32], octants: usize, settings: Settings, low: usize, high: usize) -> usize
     requires { (low ≤ high) × (high ≤ sample_rows current (length samples.now))
         × (Acceptable settings samples.now octants low) }

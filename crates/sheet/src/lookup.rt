@@ -33,7 +33,7 @@ fn part_of(sheet: &[u8], tag: u32) -> Option<Part>
     found
 }
 
-// The same, or the empty part.
+// The same, or the empty part: C and the paper have no other word for none.
 pub fn name_part(sheet: &[u8], tag: u32) -> Part
     ensures { result ≡ name_part sheet.now tag }
 {

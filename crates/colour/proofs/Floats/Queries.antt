@@ -34,9 +34,9 @@ module _ (q : Query) where
   asked_no e = rw (asked_of, e)
 
 -- Its number is question 9's: 0 exactly for a good query, else 9.
-pub answer_number_lem : (q : Query) → answer_number (asked_of q) ≡ first_no (query_questions q)
+pub asked_number_lem : (q : Query) → answer_number (asked_of q) ≡ first_no (query_questions q)
 unfolding query_questions first_no
-answer_number_lem q = at (query_good q) refl
+asked_number_lem q = at (query_good q) refl
   where
     at : (b : Bool) → query_good q ≡ b → answer_number (asked_of q) ≡ first_no (query_questions q)
     at true e = rw (e, asked_yes q e)
@@ -44,7 +44,7 @@ answer_number_lem q = at (query_good q) refl
 
 -- So an answer that is the definition's has the paper's number.
 pub asked_meets : (q : Query) (r : Result Wanted Refusal) → r ≡ asked_of q → (answer_number r ≡ first_no (query_questions q)) × (r ≡ asked_of q)
-asked_meets q r e = (ap answer_number e ∙ answer_number_lem q, e)
+asked_meets q r e = (ap answer_number e ∙ asked_number_lem q, e)
 
 -- A centre and a radius.
 module _ (p : PanelColour) (v : Float) where

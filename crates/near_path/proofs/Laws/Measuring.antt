@@ -19,7 +19,7 @@ use Rattle.traversal.specs.Own.{rows_from, own_most, own_rows}
 use Rattle.traversal.specs.Search.{Searching, own_search}
 use Rattle.traversal.proofs.Laws.Sound.Each.{All}
 use Rattle.traversal.proofs.Laws.Rows as Rows
-use Rattle.near_path.specs.declared.leaf.Run.{Run}
+use Rattle.traversal.specs.declared.rows.Run.{Run}
 use Rattle.near_path.specs.Best.{Kept, rank_of, least_from, least_rank, top_rank, taken_rank, own_best, bests}
 use Rattle.near_path.specs.Steps.{Measured, search_ranked}
 
@@ -70,13 +70,13 @@ unfolding least_from least_rank All
 least_top ws p [] r h = refl
 least_top ws p (i ∷ rows) r h = ap (λ (n : ℕ). least_from ws p n rows) (rank_most ws p i r h.0)
 
-module _ (ws os : List ℕ) (p : Probe) (fine : Fine p) (row : ℕ) (s : Searching Kept) (count : ℕ) (run : Run) {first : ℕ}
+module _ (ws os : List ℕ) (p : Probe) (fine : Fine p) (row : ℕ) (s : Searching Kept) (count : ℕ) (run : Run ℕ) {first : ℕ}
     (starts : first ≡ octant_field current os row First) (most : count ≡ own_most ws os row s.visited) (g : Measured ws p first count run) where
   rows_are : rows_from ws count first ≡ own_rows ws os row s.visited
   unfolding own_rows
   rows_are = ap₂ (rows_from ws) most starts
 
-  pub own_ranked : search_ranked row run.rank run.seen s ≡ own_search (bests ws p) ws os row s
+  pub own_ranked : search_ranked row run.gathered run.seen s ≡ own_search (bests ws p) ws os row s
   unfolding search_ranked own_search own_best
   own_ranked =
       ap₂ (λ (k n : ℕ). record { kept = taken_rank s.kept row k; entered = s.entered; visited = s.visited + n })

@@ -24,7 +24,7 @@ use Rattle.traversal.proofs.Laws.Rows.{own_few}
 use Rattle.traversal.proofs.Laws.Cubes.{half_is, child_depth}
 use Rattle.nearest.specs.declared.best.Best.{Best}
 use Rattle.nearest.specs.declared.search.Search.{Search}
-use Rattle.nearest.specs.declared.search.Run.{Run}
+use Rattle.traversal.specs.declared.rows.Run.{Run}
 use Rattle.nearest.specs.Best.{closer}
 use Rattle.nearest.specs.Turns.{in_turn}
 use Rattle.nearest.specs.Search.{measure_rows, search_entering, own_search, reaches, child_search, turn_child, search_of, no_search, search_all}
@@ -33,7 +33,7 @@ use Rattle.nearest.proofs.Laws.Entered.{turned_off, turned_in}
 use Rattle.nearest.proofs.Laws.Bounds.{reaches_row, entering_within, turns_within, child_within, search_within, no_search_within}
 
 -- An octant's own samples, measured by their next words.
-module _ (ws os : List ℕ) (c : Colour) (row : ℕ) (s : Search) (count : ℕ) (run : Run) {first : ℕ} (starts : first ≡ octant_field current os row First)
+module _ (ws os : List ℕ) (c : Colour) (row : ℕ) (s : Search) (count : ℕ) (run : Run Best) {first : ℕ} (starts : first ≡ octant_field current os row First)
     (most : count ≡ own_most ws os row s.visited) (g : Measured ws c row first count s.best run) where
   rows_are : rows_from ws count first ≡ own_rows ws os row s.visited
   unfolding own_rows
@@ -43,7 +43,7 @@ module _ (ws os : List ℕ) (c : Colour) (row : ℕ) (s : Search) (count : ℕ) 
   pub own_room : s.visited ≤ sample_budget current ws → s.visited + run.seen ≤ sample_budget current ws
   own_room h = omega (arith, g.seen ∙ ap length rows_are, own_few ws os row s.visited, h)
 
-  pub own_measured : record { best = run.best; entered = s.entered; visited = s.visited + run.seen } ≡ own_search ws os c row s
+  pub own_measured : record { best = run.gathered; entered = s.entered; visited = s.visited + run.seen } ≡ own_search ws os c row s
   unfolding own_search
   own_measured =
       ap₂ (λ (x : Best) (n : ℕ). record { best = x; entered = s.entered; visited = s.visited + n })
