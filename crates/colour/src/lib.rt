@@ -78,7 +78,8 @@ pub enum Region {
     Box(Colour, Colour),
 }
 
-// An octant as a cube of colours: its least colour, its depth, and its side, which goes with it so that it is looked up once.
+// An octant as a cube of colours: its least colour, its depth, and its side, which goes with it so that it is looked up once. (That it lies within the root
+// is asked where it is needed: definitions make cubes, and would have to make the proofs with them.)
 #[derive(Clone, Copy)]
 pub struct Cube {
     pub low: Codes,

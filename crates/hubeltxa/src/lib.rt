@@ -1,4 +1,5 @@
-// The C boundary. Each call takes numbers, floats and lent words, and is a thin call of the crate that does the work.
+// The C boundary. Each call takes numbers, floats and lent words, and is a thin call of the crate that does the work. C takes a refusal as its number, and 0
+// for what there is none of.
 #![tactic(auto)]
 
 ghost use Rattle.std.specs.Prelude.{ℕ, ◌≤◌, List, [], ◌≡◌};

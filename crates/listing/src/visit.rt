@@ -69,6 +69,7 @@ fn visit(
     }
     let limit = tables.octant_limit();
     let parent = parent_of(cube);
+    // By hand: what is left is a mask, and no index is counted.
     let mut left = overlapping(region, parent);
     while left != 0 {
         let k = first(left);

@@ -40,7 +40,7 @@ fn measure(samples: &[u32], p: Probe, first: u32, count: u32) -> Run<u64>
     }
 }
 
-// An entered octant's own samples.
+// An entered octant's own samples. (`SearchReady` is of tables and search, and so is a field of neither.)
 pub fn own(tables: &Tables<'_>, p: Probe, octant: u32, search: &mut Search)
     requires ready { SearchReady tables.now.samples.now tables.now.octants.now (search_in search.old) }
     requires octant_bound { octant < octant_limit current tables.now.octants.now }

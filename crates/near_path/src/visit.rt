@@ -30,6 +30,7 @@ fn siblings(tables: &Tables<'_>, p: Probe, row: u32, spot: Spot, fork: Fork, sea
 {
     let far = far_of(p, parent_at(p, spot, fork));
     let limit = tables.octant_limit();
+    // By hand: what is left is a mask, and no index is counted.
     let mut left = turns(search.distance, spot.near, far);
     while left != 0 {
         let turn = first_of(left);

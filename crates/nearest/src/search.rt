@@ -53,7 +53,7 @@ fn measure(
     }
 }
 
-// An entered octant's own samples.
+// An entered octant's own samples. (`Ready` is of tables and search, and so is a field of neither.)
 pub fn own(tables: &Tables<'_>, centre: Codes, row: u32, search: Search) -> Search
     requires ready { Ready tables.now.samples.now tables.now.octants.now search }
     requires row_bound { row < octant_limit current tables.now.octants.now }

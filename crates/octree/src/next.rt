@@ -8,7 +8,8 @@ ghost use Rattle.octree.specs.Steps.{RowsGiven, NextsAre};
 use order::entry::row_of;
 use words::layout::{next, put_next};
 
-// Writes the next words of ordered entries, from the last on: what follows a sample is known before it.
+// Writes the next words of ordered entries, from the last on: what follows a sample is known before it. (`RowsGiven` is of a table and entries, and so is a
+// field of neither.)
 pub fn put_all(samples: &mut [u32], ordered: &[u64])
     requires { RowsGiven samples.old ordered.now }
     ensures nexts { NextsAre (length ordered.now) ordered.now samples.new }

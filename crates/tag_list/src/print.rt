@@ -16,7 +16,7 @@ use words::tables::Tables;
 // The most bytes that are read.
 pub const INPUT_LENGTH: usize = 32768;
 
-// The most bytes that are printed: a line for each of 512 samples.
+// The most bytes that are printed: a line for each of 512 samples. (They are a text that is lent and a length, since nothing is allocated.)
 pub const TEXT_LENGTH: usize = 5632;
 
 // The words of 512 sample rows.

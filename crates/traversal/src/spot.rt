@@ -47,7 +47,7 @@ pub fn fork_of(p: Probe, cube: Cube) -> Fork
     }
 }
 
-// The octant, with its children's side.
+// The octant, with its children's side. (`Forked` is of probe, spot and fork, and so is a field of none.)
 pub fn parent_at(p: Probe, spot: Spot, fork: Fork) -> Parent
     requires { Forked p spot fork }
     ensures cube { result.cube ≡ spot.cube }

@@ -131,7 +131,7 @@ pub fn sample_budget(samples: &[u32]) -> u32
     (count(samples) as usize).min(sample_rows(samples.len())) as u32
 }
 
-// The tag in row i.
+// The tag in row i. (That there is such a row is asked, here and below: it is the bound of an index.)
 pub fn tag(samples: &[u32], i: usize) -> u32
     requires { i < sample_rows current (length samples.now) }
     ensures { result ≡ sample_field current samples.now i Tag }

@@ -35,7 +35,7 @@ module _ (ws : List ℕ) (p : Probe) (first count : ℕ) where
 
   module _ {ahead : List ℕ} {seen best : ℕ} (g : Measuring ahead seen best) where
     -- Nothing is left.
-    pub measuring_ends : ahead ≡ [] → Measured ws p first count (record { rank = best; seen = seen })
+    pub measuring_ends : ahead ≡ [] → Measured ws p first count (record { gathered = best; seen = seen })
     unfolding least_from
     measuring_ends e = record { least = rw e at g.least; seen = omega (arith, rw e at g.passed) }
 

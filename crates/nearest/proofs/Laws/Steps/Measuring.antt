@@ -22,7 +22,7 @@ module _ (ws : List ℕ) (c : Colour) (octant first count : ℕ) (start : Best) 
 
   module _ {ahead : List ℕ} {seen : ℕ} {best : Best} (g : Measuring ahead seen best) where
     -- Nothing is left.
-    pub measuring_ends : ahead ≡ [] → Measured ws c octant first count start (record { best = best; seen = seen })
+    pub measuring_ends : ahead ≡ [] → Measured ws c octant first count start (record { gathered = best; seen = seen })
     unfolding measure_rows
     measuring_ends e = record { best_is = rw e at g.best_is; seen = omega (arith, rw e at g.passed) }
 

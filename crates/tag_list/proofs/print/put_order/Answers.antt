@@ -12,12 +12,13 @@ use Rattle.tag_list.proofs.Laws.Printing.{order_printed}
 use Rattle.tag_list.proofs.print.put_order.Goals as goal
 use Rattle.tag_list.proofs.print.put_order.Goals.{In-Ok}
 
-pub list-requires : goal.list-requires
+pub invariant_of-list : goal.invariant_of-list
 unfolding Fits long_enough
-list-requires c =
+invariant_of-list c =
     let a = c.args in
     let sound = c.requires.0.0 in
-    both_long a.samples.now a.octants.now (sound_long sound.machine (pair a.samples.now a.octants.now) sound.shows)
+    let both = both_long a.samples.now a.octants.now (sound_long sound.machine (pair a.samples.now a.octants.now) sound.shows) in
+    record { samples_headed = both.0; octants_headed = both.1 }
 
 -- The listing after it.
 ordered : (c : In-Ok) → Ordered (pair c.args.samples.now c.args.octants.now) c.list.new.listing c.in-Ok.counts.listed
