@@ -278,8 +278,5 @@ pub fn octant_is(rows: &[u32], octant: &Octant) -> bool
     ensures { (result ≡ true) ↔ (take (octant_width current) rows.now
         ≡ octant_row_by current octant.now.first octant.now.last octant.now.count octant.now.children) }
 {
-    if rows[FIRST] != octant.first || rows[LAST] != octant.last || rows[COUNT] != octant.count {
-        return false;
-    }
-    rows[CHILD..OCTANT_WIDTH] == octant.children[..]
+    rows[..OCTANT_WIDTH] == octant.row()[..]
 }
