@@ -272,14 +272,11 @@ pub fn put_octant(rows: &mut [u32], octant: &Octant)
     rows[..OCTANT_WIDTH].copy_from_slice(&octant.row());
 }
 
-// Whether the row at the front of the rows lent is that octant's. Word by word: a row made to be compared is one more copy at each octant of a check.
+// Whether the row at the front of the rows lent is that octant's.
 pub fn octant_is(rows: &[u32], octant: &Octant) -> bool
     requires { octant_width current ≤ length rows.now }
     ensures { (result ≡ true) ↔ (take (octant_width current) rows.now
         ≡ octant_row_by current octant.now.first octant.now.last octant.now.count octant.now.children) }
 {
-    if rows[FIRST] != octant.first || rows[LAST] != octant.last || rows[COUNT] != octant.count {
-        return false;
-    }
-    rows[CHILD..OCTANT_WIDTH] == octant.children[..]
+    rows[..OCTANT_WIDTH] == octant.row()[..]
 }
