@@ -1,5 +1,5 @@
 -- What the functions under the calls ask and promise. No call's own promise cites these.
-use Rattle.std.specs.Prelude.{ℕ, ◌+◌, ◌*◌, ◌%◌, ◌≤◌, ◌<◌, ◌^◌, true, false, List, [], ◌∷◌, ◌++◌, ◌≡◌, eqb, leb, length, get_or, take, Option, Some, Result, Ok, Err}
+use Rattle.std.specs.Prelude.{ℕ, ◌+◌, ◌*◌, ◌%◌, ◌≤◌, ◌<◌, ◌^◌, true, false, List, [], ◌∷◌, ◌++◌, ◌≡◌, eqb, leb, length, get_or, take, Option, Some, Result, Ok}
 use Rattle.colour.specs.declared.Sample.{Sample}
 use Rattle.colour.specs.declared.Settings.{Settings}
 use Rattle.colour.specs.Octant.{depths}
@@ -98,8 +98,6 @@ pub record Writable (s : Settings) (ws : List ℕ) (octant_length : ℕ) (ordere
 
 -- What is known where a table's header is right: the count is n, the settings are s, and n rows are there.
 pub record Headed (s : Settings) (ws os : List ℕ) (n scratch : ℕ) : Type 0 where
-  pub sample_words_is : sample_header current ≤ length ws
-  pub octant_words_is : octant_header current ≤ length os
   pub few : n ≤ sample_rows current (length ws)
   pub space : n ≤ scratch
   pub counted : count_in ws ≡ n
