@@ -98,8 +98,6 @@ pub record Writable (s : Settings) (ws : List ℕ) (octant_length : ℕ) (ordere
 
 -- What is known where a table's header is right: the count is n, the settings are s, and n rows are there.
 pub record Headed (s : Settings) (ws os : List ℕ) (n scratch : ℕ) : Type 0 where
-  pub sample_words_is : sample_header current ≤ length ws
-  pub octant_words_is : octant_header current ≤ length os
   pub few : n ≤ sample_rows current (length ws)
   pub space : n ≤ scratch
   pub counted : count_in ws ≡ n

@@ -21,6 +21,7 @@ use words::layout::{
     MOST_SAMPLES, count as count_of, long_enough, octant_rows, octant_start, put_count, put_header,
     sample_rows, sample_start, settings as settings_of, settings_fit,
 };
+use words::tables::Tables;
 use words::zeros::{are_zero, clear};
 
 // Judges a list of samples by its entries, for tables of these lengths, and puts the entries in their order: whether it finds rows and its tree
@@ -117,37 +118,37 @@ fn octants_are(octants: &[u32], bucket: u32, count: u32, ordered: &[u64]) -> boo
 
 // Whether the tables are those of the samples whose entries, by arrival, are lent.
 fn same_tables(
-    samples: &[u32],
-    octants: &[u32],
+    tables: &Tables<'_>,
     settings: Settings,
     entries: &mut [u64],
     scratch: &mut [u64],
 ) -> bool
-    requires { Listed settings samples.now octants.now entries.old (length scratch.old) }
+    requires { Listed settings tables.now.samples.now tables.now.octants.now entries.old (length scratch.old) }
     ensures { (result ≡ true)
-        ↔ (SameTables settings (length entries.old) samples.now octants.now) }
+        ↔ (SameTables settings (length entries.old) tables.now.samples.now tables.now.octants.now) }
 {
-    let Ok(count) = judge(entries, scratch, settings, samples.len(), octants.len()) else {
+    let Ok(count) = judge(
+        entries,
+        scratch,
+        settings,
+        tables.samples.len(),
+        tables.octants.len(),
+    ) else {
         return false;
     };
-    samples_are(samples, entries) && octants_are(octants, settings.bucket, count, entries)
+    samples_are(tables.samples, entries)
+        && octants_are(tables.octants, settings.bucket, count, entries)
 }
 
 // Whether the tables are those of the samples in the first rows, as many as there are places for entries.
-fn hold(
-    samples: &[u32],
-    octants: &[u32],
-    settings: Settings,
-    entries: &mut [u64],
-    scratch: &mut [u64],
-) -> bool
-    requires { Headed settings samples.now octants.now (length entries.old) (length scratch.old) }
+fn hold(tables: &Tables<'_>, settings: Settings, entries: &mut [u64], scratch: &mut [u64]) -> bool
+    requires { Headed settings tables.now.samples.now tables.now.octants.now (length entries.old) (length scratch.old) }
     ensures { (result ≡ true)
-        ↔ (Holds settings (length entries.old) samples.now octants.now) }
+        ↔ (Holds settings (length entries.old) tables.now.samples.now tables.now.octants.now) }
 {
-    all_apart(samples, entries, scratch)
-        && fill(samples, entries).is_ok()
-        && same_tables(samples, octants, settings, entries, scratch)
+    all_apart(tables.samples, entries, scratch)
+        && fill(tables.samples, entries).is_ok()
+        && same_tables(tables, settings, entries, scratch)
 }
 
 // The checking call: whether the tables are those of some set. It reads the set off the sample table and compares every word.
@@ -157,15 +158,16 @@ pub fn check(samples: &[u32], octants: &[u32]) -> bool
     if !long_enough(samples.len(), octants.len()) {
         return false;
     }
-    let settings = settings_of(samples);
+    let tables = Tables { samples, octants };
+    let settings = settings_of(tables.samples);
     if !settings_fit(settings) {
         return false;
     }
-    let n = count_of(samples) as usize;
+    let n = count_of(tables.samples) as usize;
     if sample_rows(samples.len()) < n {
         return false;
     }
     let mut entries = [0u64; MOST_SAMPLES];
     let mut scratch = [0u64; MOST_SAMPLES];
-    hold(samples, octants, settings, &mut entries[..n], &mut scratch)
+    hold(&tables, settings, &mut entries[..n], &mut scratch)
 }

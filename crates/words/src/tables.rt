@@ -5,7 +5,7 @@ ghost use Rattle.words.specs.Rows.{octant_limit, sample_budget};
 
 use crate::layout::{octant_limit, sample_budget};
 
-// They go by reference: so a query is some 2 % faster than with two slices, and by value it is slower.
+// They go by reference: a query then takes some 2 % fewer instructions than with two slices; by value it takes as many.
 #[derive(Clone, Copy)]
 pub struct Tables<'a> {
     pub samples: &'a [u32],

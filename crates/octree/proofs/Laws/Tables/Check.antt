@@ -138,8 +138,6 @@ module _ (ws os : List ℕ) (s : Settings) (k n : ℕ) (long : long_enough curre
   pub header_right : (scratch : ℕ) → n ≤ scratch → Headed s ws os n scratch
   header_right scratch h =
       record {
-        sample_words_is = (both_long ws os long).0;
-        octant_words_is = (both_long ws os long).1;
         few = omega (arith, few, lent);
         space = h;
         counted = sym counted ∙ lent;

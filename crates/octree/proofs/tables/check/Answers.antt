@@ -15,12 +15,6 @@ unfolding long_enough
 returns-then-not-long_enough c =
     too_short _ _ (sym c.long_enough.ensures ∙ c.if-not-long_enough.true)
 
-pub settings-settings-requires : goal.settings-settings-requires
-unfolding long_enough
-settings-settings-requires c =
-    let a = c.args in
-    (both_long a.samples.now a.octants.now (sym c.long_enough.ensures ∙ c.if-not-long_enough.false)).0
-
 pub returns-then-not-settings_fit : goal.returns-then-not-settings_fit
 returns-then-not-settings_fit c =
     settings_out _ _ (ap settings_good (sym c.settings-settings.ensures) ∙ sym c.settings_fit.ensures ∙ c.if-not-settings_fit.true)
