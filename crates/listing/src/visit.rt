@@ -42,7 +42,7 @@ fn own_samples(
         listing,
         tally.listed,
     );
-    tally.count(whole, run.seen, run.end);
+    tally.count(whole, run.seen, run.gathered);
 }
 
 // Enters the octant in a row.
