@@ -2,7 +2,7 @@
 ghost use Rattle.std.specs.Prelude.{◌≡◌, ◌+◌, ◌*◌, ◌≤◌};
 ghost use Rattle.colour.specs.Colour.{apart, distance, greatest_distance};
 
-use crate::Codes;
+use crate::{Channels, Codes};
 
 // Any 32-bit number's square fits 64 bits.
 pub fn square(x: u32) -> u64
@@ -28,11 +28,12 @@ pub(crate) fn sum_of(red: u32, green: u32, blue: u32) -> u64
 }
 
 // The sum of the squares of three differences of codes.
-pub fn squares(red: u16, green: u16, blue: u16) -> u64
-    ensures is { result ≡ red * red + green * green + blue * blue }
+pub fn squares(gaps: Channels<u16>) -> u64
+    ensures is { result ≡ gaps.red * gaps.red + gaps.green * gaps.green + gaps.blue * gaps.blue }
     ensures bounded { result ≤ greatest_distance }
 {
-    sum_of(code_square(red), code_square(green), code_square(blue))
+    let Channels { red, green, blue } = gaps.map(code_square);
+    sum_of(red, green, blue)
 }
 
 // d² of two colours.
@@ -41,9 +42,5 @@ pub fn squared(a: Codes, b: Codes) -> u64
     ensures is { result ≡ distance a b }
     ensures bounded { result ≤ greatest_distance }
 {
-    squares(
-        a.red.abs_diff(b.red),
-        a.green.abs_diff(b.green),
-        a.blue.abs_diff(b.blue),
-    )
+    squares(a.zip(b).map(|(x, y)| x.abs_diff(y)))
 }

@@ -11,7 +11,8 @@ pub mod overlap;
 pub mod panel;
 pub mod refusal;
 
-ghost use Rattle.std.specs.Prelude.{◌≡◌};
+ghost use Rattle.std.specs.Prelude.{◌≡◌, ◌&&◌};
+ghost use Rattle.colour.specs.Channels.{Tried};
 ghost use Rattle.colour.specs.Colour.{wrapped, InRange};
 
 // What is said of red, green and blue alike.
@@ -32,6 +33,55 @@ impl<T: Copy> Channels<T> {
             green: value,
             blue: value,
         }
+    }
+
+    // The channels of two, side by side.
+    pub fn zip<U>(self, other: Channels<U>) -> Channels<(T, U)>
+        ensures { result ≡ record { red = (self.red, other.red); green = (self.green, other.green); blue = (self.blue, other.blue) } }
+    {
+        Channels {
+            red: (self.red, other.red),
+            green: (self.green, other.green),
+            blue: (self.blue, other.blue),
+        }
+    }
+
+    // f of each channel.
+    pub fn map<U, F: Fn(T) -> U>(self, f: F) -> Channels<U>
+        requires red { F.pre f self.red }
+        requires green { F.pre f self.green }
+        requires blue { F.pre f self.blue }
+        ensures red { F.post f self.red result.red }
+        ensures green { F.post f self.green result.green }
+        ensures blue { F.post f self.blue result.blue }
+    {
+        Channels {
+            red: f(self.red),
+            green: f(self.green),
+            blue: f(self.blue),
+        }
+    }
+
+    // The same where f can refuse: the first refusal, if there is one.
+    pub fn try_map<U: Copy, E, F: Fn(T) -> Result<U, E>>(self, f: F) -> Result<Channels<U>, E>
+        requires red { F.pre f self.red }
+        requires green { F.pre f self.green }
+        requires blue { F.pre f self.blue }
+        ensures { Tried (F.post f) self result }
+    {
+        let red = f(self.red)?;
+        let green = f(self.green)?;
+        let blue = f(self.blue)?;
+        Ok(Channels { red, green, blue })
+    }
+}
+
+impl Channels<bool> {
+    // Whether all three hold. `&` and not `&&`: no branch.
+    pub fn every(self) -> bool
+        ensures { result ≡ self.red && self.green && self.blue }
+    {
+        self.red & self.green & self.blue
     }
 }
 
@@ -92,9 +142,5 @@ pub struct Cube {
 pub fn wrapped(c: Colour) -> Codes
     ensures { result ≡ wrapped c }
 {
-    Channels {
-        red: (c.red % 65536) as u16,
-        green: (c.green % 65536) as u16,
-        blue: (c.blue % 65536) as u16,
-    }
+    c.map(|word| (word % 65536) as u16)
 }

@@ -18,11 +18,7 @@ pub fn gaps_of(c: Codes, parent: Parent) -> Channels<Halves>
 {
     let low = parent.cube.low;
     let half = parent.half;
-    Channels {
-        red: closest_squares(c.red, low.red, half),
-        green: closest_squares(c.green, low.green, half),
-        blue: closest_squares(c.blue, low.blue, half),
-    }
+    c.zip(low).map(|(x, from)| closest_squares(x, from, half))
 }
 
 // The half of a bit: 1 is the upper one.

@@ -54,12 +54,9 @@ pub fn closest_distance(c: Codes, cube: Cube) -> u64
     ensures is { result ≡ distance c (closest c cube.side cube.low) }
     ensures bounded { result ≤ greatest_distance }
 {
-    let low = cube.low;
-    let s = cube.side;
     squares(
-        closest_gap(c.red, low.red, s),
-        closest_gap(c.green, low.green, s),
-        closest_gap(c.blue, low.blue, s),
+        c.zip(cube.low)
+            .map(|(x, low)| closest_gap(x, low, cube.side)),
     )
 }
 
@@ -70,12 +67,9 @@ pub fn farthest_distance(c: Codes, cube: Cube) -> u64
     ensures is { result ≡ distance c (farthest c cube.side cube.low) }
     ensures bounded { result ≤ greatest_distance }
 {
-    let low = cube.low;
-    let s = cube.side;
     squares(
-        farthest_gap(c.red, low.red, s),
-        farthest_gap(c.green, low.green, s),
-        farthest_gap(c.blue, low.blue, s),
+        c.zip(cube.low)
+            .map(|(x, low)| farthest_gap(x, low, cube.side)),
     )
 }
 
@@ -107,9 +101,10 @@ fn all_between(low: u32, high: u32, from: u16, side: u32) -> bool
 fn box_holds(low: Colour, high: Colour, c: Codes) -> bool
     ensures { result ≡ holds (Region.Box low high) c }
 {
-    between(low.red, c.red, high.red)
-        & between(low.green, c.green, high.green)
-        & between(low.blue, c.blue, high.blue)
+    low.zip(high)
+        .zip(c)
+        .map(|((low, high), x)| between(low, x, high))
+        .every()
 }
 
 #[tactic(auto, using(crate::proofs::Laws::Cubes::cube_room), unfolding(crate::specs::Region::overlaps, crate::specs::Colour::each, crate::specs::Colour::code_in))]
@@ -117,11 +112,10 @@ fn box_overlaps(low: Colour, high: Colour, cube: Cube) -> bool
     requires { Within cube }
     ensures { result ≡ overlaps (Region.Box low high) cube.side cube.low }
 {
-    let from = cube.low;
-    let s = cube.side;
-    some_between(low.red, high.red, from.red, s)
-        & some_between(low.green, high.green, from.green, s)
-        & some_between(low.blue, high.blue, from.blue, s)
+    low.zip(high)
+        .zip(cube.low)
+        .map(|((low, high), from)| some_between(low, high, from, cube.side))
+        .every()
 }
 
 #[tactic(auto, using(crate::proofs::Laws::Cubes::cube_room), unfolding(crate::specs::Region::inside, crate::specs::Colour::each, crate::specs::Colour::code_in))]
@@ -129,11 +123,10 @@ fn box_inside(low: Colour, high: Colour, cube: Cube) -> bool
     requires { Within cube }
     ensures { result ≡ inside (Region.Box low high) cube.side cube.low }
 {
-    let from = cube.low;
-    let s = cube.side;
-    all_between(low.red, high.red, from.red, s)
-        & all_between(low.green, high.green, from.green, s)
-        & all_between(low.blue, high.blue, from.blue, s)
+    low.zip(high)
+        .zip(cube.low)
+        .map(|((low, high), from)| all_between(low, high, from, cube.side))
+        .every()
 }
 
 // Whether a colour is in a region.
@@ -264,14 +257,11 @@ fn box_overlapping(low: Colour, high: Colour, parent: Parent) -> u32
 {
     let from = parent.cube.low;
     let half = parent.half;
-    mask(
-        Channels {
-            red: misses(low.red, high.red, from.red, half),
-            green: misses(low.green, high.green, from.green, half),
-            blue: misses(low.blue, high.blue, from.blue, half),
-        },
-        1,
-    )
+    let halves = low
+        .zip(high)
+        .zip(from)
+        .map(|((low, high), from)| misses(low, high, from, half));
+    mask(halves, 1)
 }
 
 // The children of a split octant that overlap a region, each a bit of the result.

@@ -8,7 +8,7 @@ ghost use Rattle.colour.specs.Question.{first_no};
 ghost use Rattle.colour.specs.Refusal.{answer_number};
 
 use crate::refusal::Refusal;
-use crate::{Channels, Codes, Colour, PanelColour, Query, Region};
+use crate::{Codes, Colour, PanelColour, Query, Region};
 
 // What a query wants, in codes: what lies in a region, or what is nearest to a centre within a radius.
 #[derive(Clone, Copy)]
@@ -69,10 +69,7 @@ impl TryFrom<PanelColour> for Codes {
     ghost try_from_gives = { λ p r. (codes_answer r ≡ floats_to_codes p) × (r ≡ codes_if (panel_good p) p) };
 
     fn try_from(p: PanelColour) -> Result<Self, Refusal> {
-        let red = channel_code(p.red)?;
-        let green = channel_code(p.green)?;
-        let blue = channel_code(p.blue)?;
-        Ok(Channels { red, green, blue })
+        p.try_map(channel_code)
     }
 }
 
@@ -91,10 +88,7 @@ impl TryFrom<Colour> for Codes {
     ghost try_from_gives = { λ c r. r ≡ fit_if (codes_fit c) c };
 
     fn try_from(c: Colour) -> Result<Self, Refusal> {
-        let red = code_in(c.red)?;
-        let green = code_in(c.green)?;
-        let blue = code_in(c.blue)?;
-        Ok(Channels { red, green, blue })
+        c.try_map(code_in)
     }
 }
 
@@ -111,11 +105,7 @@ impl From<Codes> for Colour {
     ghost from_gives = { λ c r. r ≡ c };
 
     fn from(c: Codes) -> Self {
-        Channels {
-            red: u32::from(c.red),
-            green: u32::from(c.green),
-            blue: u32::from(c.blue),
-        }
+        c.map(u32::from)
     }
 }
 
@@ -133,12 +123,7 @@ impl TryFrom<Colour> for PanelColour {
     ghost try_from_gives = { λ c r. (floats_answer r ≡ codes_to_floats c) × (r ≡ floats_if (codes_fit c) c) };
 
     fn try_from(c: Colour) -> Result<Self, Refusal> {
-        let codes = Codes::try_from(c)?;
-        Ok(Channels {
-            red: show(codes.red),
-            green: show(codes.green),
-            blue: show(codes.blue),
-        })
+        Ok(Codes::try_from(c)?.map(show))
     }
 }
 
@@ -147,7 +132,7 @@ impl TryFrom<Colour> for PanelColour {
 fn at_most(low: Codes, high: Codes) -> bool
     ensures { result ≡ ordered low high }
 {
-    low.red <= high.red && low.green <= high.green && low.blue <= high.blue
+    low.zip(high).map(|(least, most)| least <= most).every()
 }
 
 // A centre and a radius in codes.

@@ -1,12 +1,12 @@
 -- What the answer enums tell, and that each is the paper's answer.
-use mathlib.Core.Path.{◌≡◌, refl, ap, ◌∙◌}
+use mathlib.Core.Path.{◌≡◌, refl, sym, ap, ◌∙◌}
 use mathlib.Core.Bool.{Bool, true, false}
 use Rattle.std.specs.Option.{ok_or}
 use Rattle.std.specs.Prelude.{Result, Ok, Err}
 use Prim.Native.Nat.{ℕ}
 use native.Mathlib.Omega.{arith}
 use lib.Ieee.{Float}
-use Rattle.colour.specs.Channels.{Colour}
+use Rattle.colour.specs.Channels.{Colour, Tried, all, red, green, blue}
 use Rattle.colour.specs.Channels.{PanelColour}
 use Rattle.colour.specs.declared.refusal.Refusal.{Refusal}
 use Rattle.colour.specs.declared.refusal.Refusal.TheVariants as R
@@ -71,19 +71,19 @@ float_in Red p = p.red
 float_in Green p = p.green
 float_in Blue p = p.blue
 
-abbrev pub channel_answer : Channel → PanelColour → Result ℕ Refusal
+abbrev channel_answer : Channel → PanelColour → Result ℕ Refusal
 channel_answer h p = channel_if (channel_good (float_in h p)) (float_in h p)
 
 module _ (p : PanelColour) where
   -- One channel refused is the whole colour refused.
-  pub codes_no : (h : Channel) (r : Refusal) → channel_answer h p ≡ Err r → Err r ≡ codes_if (panel_good p) p
+  codes_no : (h : Channel) (r : Refusal) → channel_answer h p ≡ Err r → Err r ≡ codes_if (panel_good p) p
   unfolding panel_good each codes_if
   codes_no h r e =
       let no = code_refused (channel_good (float_in h p)) (float_in h p) r e in
       let bad : panel_good p ≡ false = each_no (λ h. channel_good (float_in h p)) h no.0 in
       rw (bad, no.1)
 
-  pub codes_yes : (r g b : ℕ) → channel_answer Red p ≡ Ok r → channel_answer Green p ≡ Ok g → channel_answer Blue p ≡ Ok b
+  codes_yes : (r g b : ℕ) → channel_answer Red p ≡ Ok r → channel_answer Green p ≡ Ok g → channel_answer Blue p ≡ Ok b
       → Ok (record { red = r; green = g; blue = b }) ≡ codes_if (panel_good p) p
   unfolding panel_good codes_if codes_of
   codes_yes r g b er eg eb =
@@ -91,6 +91,13 @@ module _ (p : PanelColour) where
       let y = code_told (channel_good p.green) p.green g eg in
       let z = code_told (channel_good p.blue) p.blue b eb in
       rw (x.0, y.0, z.0, x.1, y.1, z.1)
+
+  -- What floats to codes comes to.
+  pub codes_tried : (r : Result Colour Refusal) → Tried (λ v a. a ≡ channel_if (channel_good v) v) p r → r ≡ codes_if (panel_good p) p
+  codes_tried _ (all d x y z) = codes_yes d.red d.green d.blue (sym x) (sym y) (sym z)
+  codes_tried _ (red e x) = codes_no Red e (sym x)
+  codes_tried _ (green r e x y) = codes_no Green e (sym y)
+  codes_tried _ (blue r g e x y z) = codes_no Blue e (sym z)
 
   -- The enum is the paper's answer.
   codes_answer_lem : (b : Bool) → panel_good p ≡ b → codes_answer (codes_if (panel_good p) p) ≡ floats_to_codes p
@@ -103,17 +110,17 @@ module _ (p : PanelColour) where
 
 -- One word that is no code refuses the colour.
 module _ (c : Colour) where
-  abbrev pub word_answer : Channel → Result ℕ Refusal
+  abbrev word_answer : Channel → Result ℕ Refusal
   word_answer h = code_if (is_code (code_in h c)) (code_in h c)
 
-  pub fit_no : (h : Channel) (r : Refusal) → word_answer h ≡ Err r → Err r ≡ fit_if (codes_fit c) c
+  fit_no : (h : Channel) (r : Refusal) → word_answer h ≡ Err r → Err r ≡ fit_if (codes_fit c) c
   unfolding codes_fit fit_if
   fit_no h r e =
       let no = word_refused (is_code (code_in h c)) (code_in h c) r e in
       let bad : codes_fit c ≡ false = each_no (λ h. is_code (code_in h c)) h no.0 in
       rw (bad, no.1)
 
-  pub fit_yes : (r g b : ℕ) → word_answer Red ≡ Ok r → word_answer Green ≡ Ok g → word_answer Blue ≡ Ok b
+  fit_yes : (r g b : ℕ) → word_answer Red ≡ Ok r → word_answer Green ≡ Ok g → word_answer Blue ≡ Ok b
       → Ok (record { red = r; green = g; blue = b }) ≡ fit_if (codes_fit c) c
   unfolding codes_fit each fit_if code_in
   fit_yes r g b er eg eb =
@@ -121,6 +128,13 @@ module _ (c : Colour) where
       let y = word_told (is_code c.green) c.green g eg in
       let z = word_told (is_code c.blue) c.blue b eb in
       rw (x.0, y.0, z.0, ← x.1, ← y.1, ← z.1)
+
+  pub fit_tried : (r : Result Colour Refusal) → Tried (λ x a. a ≡ code_if (is_code x) x) c r → r ≡ fit_if (codes_fit c) c
+  unfolding code_in
+  fit_tried _ (all d x y z) = fit_yes d.red d.green d.blue (sym x) (sym y) (sym z)
+  fit_tried _ (red e x) = fit_no Red e (sym x)
+  fit_tried _ (green r e x y) = fit_no Green e (sym y)
+  fit_tried _ (blue r g e x y z) = fit_no Blue e (sym z)
 
 module _ (c : Colour) where
   floats_answer_lem : (b : Bool) → codes_fit c ≡ b → floats_answer (floats_if (codes_fit c) c) ≡ codes_to_floats c

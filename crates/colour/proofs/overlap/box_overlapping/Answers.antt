@@ -1,5 +1,6 @@
 -- The halves are the region's, so the mask is that of the children that overlap.
 use mathlib.Core.Path.{refl}
+use Rattle.std.proofs.Common.{rules}
 use Rattle.colour.specs.declared.Region.TheVariants.{Box}
 use Rattle.colour.specs.Colour.{code_in}
 use Rattle.colour.specs.Steps.{share, limit_of, halves_of}
@@ -11,9 +12,9 @@ unfolding code_in share limit_of halves_of
 returns c =
     record {
       is = mask_overlaps (Box _ _) _ _
-          c.misses.ensures.is
-          c.misses-2.ensures.is
-          c.misses-3.ensures.is
+          (search rules)
+          (search rules)
+          (search rules)
           refl
           c.mask.ensures.is;
       bounded = c.mask.ensures.bounded;
