@@ -77,7 +77,7 @@ fn step(
     lent
 }
 
-// Makes the steps of a script that there is room to answer, and says how many.
+// Makes the steps of a script that there is room to answer, and says how many. (By number and not by chunks: a step is lent all that is left of each slice.)
 #[unsafe(no_mangle)]
 pub extern "C" fn hbx_replay(
     samples: &mut [u32],

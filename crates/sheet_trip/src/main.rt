@@ -28,7 +28,7 @@ fn comes_back(sample: Sample, name: &[u8]) -> bool
     read.sample == sample && &line[NAME_START..end] == name
 }
 
-// A sample with one code in each channel. Only evidence makes such samples, so the library has no function for it.
+// A sample with one code in each channel.
 fn grey(tag: u32, code: u32) -> Sample
     ensures { result ≡ grey_of tag code }
 {
