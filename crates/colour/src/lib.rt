@@ -132,7 +132,7 @@ pub enum Region {
 // is asked where it is needed: definitions make cubes, and would have to make the proofs with them.)
 #[derive(Clone, Copy)]
 pub struct Cube {
-    pub low: Codes,
+    pub low: Colour,
     pub depth: u32,
     pub side: u32,
 }

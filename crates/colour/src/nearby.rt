@@ -42,12 +42,12 @@ pub fn closest_by(gaps: Channels<Halves>, k: u32) -> u64
 }
 
 // The weight if a code is in the upper half, or past it.
-fn upper(x: u16, low: u16, half: u32, weight: u32) -> u32
+fn upper(x: u16, low: u32, half: u32, weight: u32) -> u32
     requires { low + half ≤ 65536 }
     ensures is { result ≡ bit_if (leb (low + half) x) weight }
     ensures bounded { result ≤ weight }
 {
-    bit_if(u32::from(low) + half <= u32::from(x), weight)
+    bit_if(low + half <= u32::from(x), weight)
 }
 
 // The child that a colour lies in or is closest to.

@@ -31,11 +31,11 @@ pub fn root() -> Cube
 }
 
 // The least code of child k in the channel of that weight: bit 1 is the upper half.
-fn child_code(low: u16, k: u32, weight: u32, side: u32) -> u16
+fn child_code(low: u32, k: u32, weight: u32, side: u32) -> u32
     requires { (1 ≤ weight) × ((1 ≤ side) × (low + (side + side) ≤ 65536)) }
     ensures { result ≡ low + k / weight % 2 * side }
 {
-    (u32::from(low) + k / weight % 2 * side) as u16
+    low + k / weight % 2 * side
 }
 
 // An octant of side over 1, with the side of its children, which is looked up once for all eight.

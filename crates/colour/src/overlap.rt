@@ -15,36 +15,36 @@ use crate::{Channels, Codes, Colour, Cube, Region};
 
 // The last code of low .. low + side - 1.
 #[tactic(auto, unfolding(crate::specs::Octant::last_code))]
-fn last_of(low: u16, side: u32) -> u16
+fn last_of(low: u32, side: u32) -> u32
     requires { (1 ≤ side) × (low + side ≤ 65536) }
     ensures { result ≡ last_code side low }
 {
-    (u32::from(low) + side - 1) as u16
+    low + side - 1
 }
 
 // How far x is from the closest code of low .. low + side - 1.
-fn closest_gap(x: u16, low: u16, side: u32) -> u16
-    requires { (1 ≤ side) × (low + side ≤ 65536) }
+fn closest_gap(x: u32, low: u32, side: u32) -> u16
+    requires { (x ≤ 65535) × ((1 ≤ side) × (low + side ≤ 65536)) }
     ensures { result ≡ apart x (closest_code low (last_code side low) x) }
 {
     let last = last_of(low, side);
     if x <= low {
-        return low - x;
+        return (low - x) as u16;
     }
     if last <= x {
-        return x - last;
+        return (x - last) as u16;
     }
     0
 }
 
 // How far x is from the farthest code of low .. low + side - 1, which is the first or the last.
-fn farthest_gap(x: u16, low: u16, side: u32) -> u16
-    requires { (1 ≤ side) × (low + side ≤ 65536) }
+fn farthest_gap(x: u32, low: u32, side: u32) -> u16
+    requires { (x ≤ 65535) × ((1 ≤ side) × (low + side ≤ 65536)) }
     ensures { result ≡ apart x (farthest_code low (last_code side low) x) }
 {
     let down = x.abs_diff(low);
     let up = x.abs_diff(last_of(low, side));
-    if down <= up { up } else { down }
+    if down <= up { up as u16 } else { down as u16 }
 }
 
 // d² from a colour to an octant's closest colour.
@@ -56,7 +56,7 @@ pub fn closest_distance(c: Codes, cube: Cube) -> u64
 {
     squares(
         c.zip(cube.low)
-            .map(|(x, low)| closest_gap(x, low, cube.side)),
+            .map(|(x, low)| closest_gap(u32::from(x), low, cube.side)),
     )
 }
 
@@ -69,7 +69,7 @@ pub fn farthest_distance(c: Codes, cube: Cube) -> u64
 {
     squares(
         c.zip(cube.low)
-            .map(|(x, low)| farthest_gap(x, low, cube.side)),
+            .map(|(x, low)| farthest_gap(u32::from(x), low, cube.side)),
     )
 }
 
@@ -82,19 +82,19 @@ fn between(low: u32, x: u16, high: u32) -> bool
 }
 
 // Whether some code of from .. from + side - 1 is in low .. high.
-fn some_between(low: u32, high: u32, from: u16, side: u32) -> bool
+fn some_between(low: u32, high: u32, from: u32, side: u32) -> bool
     requires { (1 ≤ side) × (from + side ≤ 65536) }
     ensures { result ≡ leb low (last_code side from) && leb from high }
 {
-    (low <= u32::from(last_of(from, side))) & (u32::from(from) <= high)
+    (low <= last_of(from, side)) & (from <= high)
 }
 
 // Whether all are.
-fn all_between(low: u32, high: u32, from: u16, side: u32) -> bool
+fn all_between(low: u32, high: u32, from: u32, side: u32) -> bool
     requires { (1 ≤ side) × (from + side ≤ 65536) }
     ensures { result ≡ leb low from && leb (last_code side from) high }
 {
-    (low <= u32::from(from)) & (u32::from(last_of(from, side)) <= high)
+    (low <= from) & (last_of(from, side) <= high)
 }
 
 #[tactic(auto, unfolding(crate::specs::Region::holds, crate::specs::Colour::each, crate::specs::Colour::code_in))]
@@ -184,30 +184,30 @@ pub struct Halves {
 }
 
 // The first code of the upper half of low .. low + 2 × half - 1.
-fn middle_of(low: u16, half: u32) -> u16
+fn middle_of(low: u32, half: u32) -> u32
     requires { (1 ≤ half) × (low + (half + half) ≤ 65536) }
     ensures { result ≡ low + half }
 {
-    (u32::from(low) + half) as u16
+    low + half
 }
 
 // What the halves of a channel add to the closest d² of a ball's centre.
 #[tactic(auto, unfolding(crate::specs::Steps::halves_of, crate::specs::Steps::closest_square))]
-pub fn closest_squares(x: u16, low: u16, half: u32) -> Halves
+pub fn closest_squares(x: u16, low: u32, half: u32) -> Halves
     requires { (1 ≤ half) × (low + (half + half) ≤ 65536) }
     ensures is { result ≡ halves_of (closest_square x) half low }
     ensures small { Small result }
 {
     let middle = middle_of(low, half);
     Halves {
-        lower: code_square(closest_gap(x, low, half)),
-        upper: code_square(closest_gap(x, middle, half)),
+        lower: code_square(closest_gap(u32::from(x), low, half)),
+        upper: code_square(closest_gap(u32::from(x), middle, half)),
     }
 }
 
 // What they add for a box: 1 where none of a half's codes is in it.
 #[tactic(auto, unfolding(crate::specs::Steps::missed, crate::specs::Steps::halves_of), using(crate::proofs::Laws::Halves::noes_byte, crate::proofs::Laws::Halves::noes_most))]
-fn misses(low: u32, high: u32, from: u16, half: u32) -> Halves
+fn misses(low: u32, high: u32, from: u32, half: u32) -> Halves
     requires { (1 ≤ half) × (from + (half + half) ≤ 65536) }
     ensures is { result ≡ halves_of (missed low high) half from }
     ensures small { Small result }

@@ -41,9 +41,9 @@ pub fn far_of(p: Probe, parent: Parent) -> Squares
     let low = parent.cube.low;
     let half = parent.half;
     Squares {
-        red: far_square(p.centre.red, u32::from(low.red) + half),
-        green: far_square(p.centre.green, u32::from(low.green) + half),
-        blue: far_square(p.centre.blue, u32::from(low.blue) + half),
+        red: far_square(p.centre.red, low.red + half),
+        green: far_square(p.centre.green, low.green + half),
+        blue: far_square(p.centre.blue, low.blue + half),
     }
 }
 

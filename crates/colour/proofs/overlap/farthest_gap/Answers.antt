@@ -1,6 +1,8 @@
 -- The test on the two differences picks the case of the farthest code.
 use mathlib.Core.Path.{ap, ◌∙◌}
+use native.Mathlib.Omega.{arith}
 use Rattle.colour.specs.Colour.{apart}
+use Rattle.colour.specs.Octant.{last_code}
 use Rattle.colour.proofs.Laws.Gaps.{farthest_high, farthest_low}
 use Rattle.colour.proofs.overlap.farthest_gap.Goals as goal
 
@@ -13,3 +15,9 @@ pub returns-else-down-up : goal.returns-else-down-up
 unfolding apart
 returns-else-down-up c =
     farthest_low _ _ _ c.abs_diff-down.ensures (c.abs_diff-up.ensures ∙ ap (apart c.args.x) c.last_of.ensures) c.if-down-up.false
+
+-- It is a code.
+pub overflow_cast-result : goal.overflow_cast-result
+unfolding last_code
+overflow_cast-result c =
+    omega (arith, c.abs_diff-up.ensures, c.last_of.ensures, c.requires.0, c.requires.1.0, c.requires.1.1)
