@@ -9,10 +9,10 @@ ghost use Rattle.listing.specs.Steps.{tally_of, tally_in, TallyWithin, Counting,
 
 use crate::follow::follow;
 use crate::tally::Tally;
-use colour::mask::{first, without};
 use colour::octant::{child, parent_of, root};
 use colour::overlap::{inside, overlapping, overlaps};
 use colour::{Cube, Region};
+use traversal::children::children_in;
 use traversal::octant::{ends, most};
 use words::layout::{octant_child, octant_first};
 use words::tables::Tables;
@@ -69,10 +69,7 @@ fn visit(
     }
     let limit = tables.octant_limit();
     let parent = parent_of(cube);
-    let mut left = overlapping(region, parent);
-    while left != 0 {
-        let k = first(left);
-        left = without(left, k);
+    for k in children_in(overlapping(region, parent)) {
         let next = octant_child(tables.octants, row, k);
         if tally.may_enter(next, limit) {
             visit(tables, region, next, child(parent, k), listing, tally);

@@ -12,7 +12,7 @@ use crate::best::{Best, Search};
 use crate::leaf::own;
 use colour::Probe;
 use colour::distance::square;
-use colour::mask::{first as first_of, without};
+use traversal::children::children_in;
 use traversal::nearby::{far_of, sum_by, turns};
 use traversal::octant::{child_at, ends};
 use traversal::spot::{Fork, Spot, closest_spot, fork_of, parent_at, root_spot, sibling_spot};
@@ -30,10 +30,7 @@ fn siblings(tables: &Tables<'_>, p: Probe, row: u32, spot: Spot, fork: Fork, sea
 {
     let far = far_of(p, parent_at(p, spot, fork));
     let limit = tables.octant_limit();
-    let mut left = turns(search.distance, spot.near, far);
-    while left != 0 {
-        let turn = first_of(left);
-        left = without(left, turn);
+    for turn in children_in(turns(search.distance, spot.near, far)) {
         let next = child_at(tables.octants, row, fork.first ^ turn);
         let to = sibling_spot(p, spot, fork, far, turn);
         if search.reaches(next, limit, sum_by(to.near)) {

@@ -2,6 +2,7 @@
 pub mod Squares
 pub mod Own
 pub mod Rows
+pub mod Places
 pub mod Children
 pub mod Nearby
 pub mod Turns

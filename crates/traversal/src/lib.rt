@@ -1,6 +1,7 @@
 // What every traversal of the tables asks of an octant, and the octants that a search by path goes through. Nothing in the tables is trusted.
 #![tactic(auto)]
 
+pub mod children;
 pub mod nearby;
 pub mod octant;
 pub mod rows;

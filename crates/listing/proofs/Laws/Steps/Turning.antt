@@ -1,11 +1,11 @@
--- The loop over the children that overlap: those before `done` were visited or found not to be entered, and the mask has the others.
-use Prim.Native.Nat.{ℕ, suc, ◌+◌, ◌-◌, ◌^◌, ◌≤◌}
+-- The loop over the children that overlap: those before `done` were visited or found not to be entered, and the others are still to
+-- come.
+use Prim.Native.Nat.{ℕ, suc, ◌+◌, ◌^◌, ◌≤◌}
 use mathlib.Core.Bool.{Bool, true, false, ◌&&◌}
 use mathlib.Core.List.{List, [], ◌∷◌, ◌++◌}
 use mathlib.Core.Path.{◌≡◌, refl, sym, ap, ap₂, ◌∙◌, subst}
 use native.Mathlib.Nat.{add-zero}
 use native.Mathlib.Omega.{arith}
-use lib.Count.{count_trailing_zeros}
 use lib.Dec.{leb, ltb}
 use lib.ListN.{length, length-append}
 use lib.Seq.{sets, length-sets}
@@ -14,9 +14,11 @@ use Rattle.colour.specs.declared.Region.{Region}
 use Rattle.colour.specs.Octant.{children, child_low}
 use Rattle.colour.specs.Mask.{mask_of, overlap_mask}
 use Rattle.colour.specs.Region.{overlaps}
-use Rattle.colour.proofs.Laws.Mask.{from, First, mask_none, mask_first, mask_start}
+use Rattle.colour.proofs.Laws.Mask.{from, mask_start}
 use Rattle.model.specs.Layout.{Child, current}
 use Rattle.words.specs.Rows.{octant_field, octant_limit, sample_budget}
+use Rattle.traversal.specs.Places.{children_in}
+use Rattle.traversal.proofs.Laws.Places.{NextChild, next_child, no_child}
 use Rattle.listing.specs.Pass.{Tally, Visit, nothing, and_then, visit_each, child_visit, visit_of}
 use Rattle.listing.specs.declared.tally.Tally as Lent
 use Rattle.listing.specs.Steps.{TallyWithin, tally_of, tally_in, Counting, Visited}
@@ -90,36 +92,37 @@ module _ (ws os : List ℕ) (R : Region) (j row : ℕ) (low : Colour) where
   turn_entered k u m e = turned_in os R _ (2 ^ j) row low k u (let_in os R (2 ^ j) (child_low (2 ^ j) k low) (at k) u m e)
 
   -- Where the loop stands, with a tally and a listing as they were before it.
-  pub record Turning (lent₀ : Lent.Tally) (listing₀ : List ℕ) (mask : ℕ) (lent : Lent.Tally) (listing : List ℕ) : Type 0 where
+  pub record Turning (lent₀ : Lent.Tally) (listing₀ : List ℕ) (ahead : List ℕ) (lent : Lent.Tally) (listing : List ℕ) : Type 0 where
     pub done : ℕ
     pub few : done ≤ 8
-    pub left : mask ≡ mask_of (from done meets) 8
+    pub left : ahead ≡ children_in (mask_of (from done meets) 8)
     pub visited : Visited (visit_each turn done (tally_in lent₀)) lent₀ listing₀ lent listing
 
-  pub turning_begins : (lent : Lent.Tally) (listing : List ℕ) (mask : ℕ) → mask ≡ overlap_mask R (2 ^ j) low → Turning lent listing mask lent listing
+  pub turning_begins : (lent : Lent.Tally) (listing ahead : List ℕ) (mask : ℕ) → ahead ≡ children_in mask → mask ≡ overlap_mask R (2 ^ j) low
+      → Turning lent listing ahead lent listing
   unfolding overlap_mask children
-  turning_begins lent listing mask e =
+  turning_begins lent listing ahead mask given e =
       record {
         done = 0;
         few = omega arith;
-        left = e ∙ sym (mask_start meets 8);
+        left = given ∙ ap children_in (e ∙ sym (mask_start meets 8));
         visited = subst (λ (v : Visit). Visited v lent listing lent listing) (sym (turn_none turn (tally_in lent))) (visited_nothing lent listing);
       }
 
-  module _ {lent₀ lent : Lent.Tally} {listing₀ listing : List ℕ} {mask : ℕ} (g : Turning lent₀ listing₀ mask lent listing) where
+  module _ {lent₀ lent : Lent.Tally} {listing₀ listing ahead : List ℕ} (g : Turning lent₀ listing₀ ahead lent listing) where
     -- All that overlap were taken.
-    pub turning_ends : mask ≡ 0 → Visited (visit_each turn children (tally_in lent₀)) lent₀ listing₀ lent listing
+    pub turning_ends : ahead ≡ [] → Visited (visit_each turn children (tally_in lent₀)) lent₀ listing₀ lent listing
     unfolding children
-    turning_ends z =
+    turning_ends none =
         subst (λ (v : Visit). Visited v lent₀ listing₀ lent listing)
         (sym (turns_skipped turn (tally_in lent₀) g.done 8 g.few
-        (λ i a b u. turn_apart i (mask_none meets g.done 8 (sym g.left ∙ z) i a b) u)))
+        (λ i a b u. turn_apart i (no_child meets g.done g.left none i a b) u)))
         g.visited
 
     -- The next one.
-    module _ (some : mask ≡ 0 → ⊥) (k : ℕ) (least : k ≡ count_trailing_zeros 32 mask) where
-      pub is_first : First meets g.done 8 mask k
-      is_first = subst (First meets g.done 8 mask) (sym least) (mask_first meets g.done 8 mask (omega arith) g.left some)
+    module _ {k : ℕ} {ahead' : List ℕ} (step : ahead ≡ k ∷ ahead') where
+      pub is_first : NextChild meets g.done k ahead'
+      is_first = next_child meets g.done g.left step
 
       -- Whether it may be entered, as the function says.
       pub allowed_is : (row' limit : ℕ) (r : Bool) → row' ≡ at k → limit ≡ octant_limit current os
@@ -133,8 +136,8 @@ module _ (ws os : List ℕ) (R : Region) (j row : ℕ) (low : Colour) where
       tally_so_far = ap tally_in g.visited.tally
 
       -- It may not be entered.
-      pub turning_barred : (mask' : ℕ) → mask' ≡ mask - 2 ^ k → allowed k (tally_in lent) ≡ false → Turning lent₀ listing₀ mask' lent listing
-      turning_barred mask' m e =
+      pub turning_barred : allowed k (tally_in lent) ≡ false → Turning lent₀ listing₀ ahead' lent listing
+      turning_barred e =
           let v : Visit = visit_each turn k (tally_in lent₀) in
           let same : visit_each turn (suc k) (tally_in lent₀) ≡ visit_each turn g.done (tally_in lent₀) =
           turn_more turn (tally_in lent₀) k
@@ -143,15 +146,15 @@ module _ (ws os : List ℕ) (R : Region) (j row : ℕ) (low : Colour) where
           record {
             done = suc k;
             few = is_first.below;
-            left = m ∙ is_first.rest;
+            left = is_first.rest;
             visited = subst (λ (w : Visit). Visited w lent₀ listing₀ lent listing) (sym same) g.visited;
           }
 
       -- It was visited.
-      pub turning_visited : (mask' : ℕ) {lent' : Lent.Tally} {listing' : List ℕ} → mask' ≡ mask - 2 ^ k → allowed k (tally_in lent) ≡ true
+      pub turning_visited : {lent' : Lent.Tally} {listing' : List ℕ} → allowed k (tally_in lent) ≡ true
           → Visited (visit_of ws os R j (at k) (child_low (2 ^ j) k low) (tally_in lent)) lent listing lent' listing'
-          → Turning lent₀ listing₀ mask' lent' listing'
-      turning_visited mask' {lent'} {listing'} m e d =
+          → Turning lent₀ listing₀ ahead' lent' listing'
+      turning_visited {lent'} {listing'} e d =
           let v : Visit = visit_each turn g.done (tally_in lent₀) in
           let own : Visited (turn k v.after) lent listing lent' listing' =
           subst (λ (u : Tally). Visited (turn k u) lent listing lent' listing') tally_so_far
@@ -161,7 +164,7 @@ module _ (ws os : List ℕ) (R : Region) (j row : ℕ) (low : Colour) where
           record {
             done = suc k;
             few = is_first.below;
-            left = m ∙ is_first.rest;
+            left = is_first.rest;
             visited = subst (λ (w : Visit). Visited w lent₀ listing₀ lent' listing') (sym same) (visited_then (turn k) g.visited own);
           }
 

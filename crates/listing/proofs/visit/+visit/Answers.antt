@@ -1,18 +1,19 @@
--- `visit::visit`: the children before `done` were visited or are not entered, and the mask has the others that overlap.
+-- `visit::visit`: the children before `done` were visited or are not entered, and the others that overlap are still to come.
 use Prim.Native.Nat.{ℕ, suc, ◌-◌, ◌<◌}
 use mathlib.Core.Path.{◌≡◌, ap, ◌∙◌}
 use native.Mathlib.Omega.{arith}
-use lib.Pow.{pow_pos}
 use Rattle.colour.specs.declared.Cube.{Cube}
 use Rattle.colour.specs.Mask.{overlap_mask}
 use Rattle.colour.specs.Octant.{depths, side_at, child_cube}
-use Rattle.colour.proofs.Laws.Mask.{First}
+use Rattle.traversal.specs.Places.{children_in}
+use Rattle.traversal.specs.declared.children.Children.{Children}
+use Rattle.traversal.proofs.Laws.Places.{NextChild}
 use Rattle.listing.specs.Steps.{tally_in, Counting}
 use Rattle.listing.proofs.Laws.Steps.Turning.{meets, allowed, allowed_is, turning_begins, turning_ends, turning_barred, turning_visited, turning_counting, is_first, visited_long}
 use Rattle.traversal.proofs.Laws.Cubes.{limit_rows, child_depth}
 use Rattle.listing.proofs.Laws.Steps.Visiting.{allowed_row, entered_counting, own_visited, deep, turns_visited, mask_is, child_visited}
 use Rattle.listing.proofs.visit.+visit.Goals as goal
-use Rattle.listing.proofs.visit.+visit.Goals.{After-enter, Else-ends, After-parent_of-parent, After-first-k, After-may_enter}
+use Rattle.listing.proofs.visit.+visit.Goals.{After-enter, Else-ends, After-parent_of-parent, In-Some, After-may_enter}
 
 after_enter : (t : ℕ) (c : After-enter t) → Counting c.args.tables.now.samples.now c.args.tables.now.octants.now c.enter.new.self
 after_enter t c =
@@ -30,18 +31,18 @@ halved : (t : ℕ) (c : After-parent_of-parent t) → c.parent_of-parent.result.
 halved t c = c.parent_of-parent.result.halved ∙ ap (λ (x : Cube). side_at (suc x.depth)) c.parent_of-parent.ensures
 
 -- The child that is next.
-found : (t : ℕ) (c : After-first-k t)
-    → First (meets c.args.tables.now.samples.now c.args.tables.now.octants.now c.args.region (16 - c.args.cube.depth - 1) c.args.row c.args.cube.low)
-    c.loop-left.invariant.done 8 c.loop-left.left c.first-k.result
-found t c = is_first _ _ _ _ _ _ c.loop-left.invariant c.loop-left-test.true _ c.first-k.ensures
+found : (t : ℕ) (c : In-Some t)
+    → NextChild (meets c.args.tables.now.samples.now c.args.tables.now.octants.now c.args.region (16 - c.args.cube.depth - 1) c.args.row c.args.cube.low)
+    c.loop-k.invariant.done c.in-Some.k (children_in c.next.new.self.left)
+found t c = is_first _ _ _ _ _ _ c.loop-k.invariant c.in-Some.ensures.steps
 
 -- Whether it may be entered.
 permitted : (t : ℕ) (c : After-may_enter t)
     → allowed c.args.tables.now.samples.now c.args.tables.now.octants.now c.args.region (16 - c.args.cube.depth - 1) c.args.row c.args.cube.low
-    c.first-k.result (tally_in c.loop-left.tally)
+    c.in-Some.k (tally_in c.loop-k.tally)
     ≡ c.may_enter.result
 permitted t c =
-    allowed_is _ _ _ _ _ _ c.loop-left.invariant c.loop-left-test.true _ c.first-k.ensures _ _ _ c.octant_child-next.ensures
+    allowed_is _ _ _ _ _ _ c.loop-k.invariant c.in-Some.ensures.steps _ _ _ c.octant_child-next.ensures
     c.octant_limit-limit.ensures c.may_enter.ensures
 
 pub enter-requires : goal.enter-requires
@@ -70,58 +71,45 @@ pub parent_of-parent-requires : goal.parent_of-parent-requires
 parent_of-parent-requires t c =
     record { within = c.requires.within; deep = deep_at t (goal.at.parent_of-parent-requires t c).Else-ends }
 
-pub loop-left-init : goal.loop-left-init
-loop-left-init t c =
-    let at = goal.at.loop-left-init t c in
-    turning_begins _ _ _ _ _ _ _ _ _ (mask_is c.args.cube _ (halved t at.After-parent_of-parent) _ _ (c.overlapping-left.ensures.is ∙ ap (λ (x : Cube). overlap_mask c.args.region c.parent_of-parent.result.half x.low) c.parent_of-parent.ensures))
-
-pub without-left-requires : goal.without-left-requires
-without-left-requires t c =
-    let f = found t (goal.at.without-left-requires t c).After-first-k in
-    (omega (arith, f.below), f.within)
+pub loop-k-init : goal.loop-k-init
+loop-k-init t c =
+    let at = goal.at.loop-k-init t c in
+    turning_begins _ _ _ _ _ _ _ _ _ _
+    (ap (λ (x : Children). children_in x.left) c.into_iter-k-iterator.ensures.into_iter_gives ∙ c.children_in-k-items.ensures)
+    (mask_is c.args.cube _ (halved t at.After-parent_of-parent) _ _ (c.overlapping.ensures.is ∙ ap (λ (x : Cube). overlap_mask c.args.region c.parent_of-parent.result.half x.low) c.parent_of-parent.ensures))
 
 pub octant_child-next-requires : goal.octant_child-next-requires
 octant_child-next-requires t c =
-    (limit_rows _ _ c.requires.next_bound.1, (found t (goal.at.octant_child-next-requires t c).After-first-k).below)
+    (limit_rows _ _ c.requires.next_bound.1, (found t (goal.at.octant_child-next-requires t c).In-Some).below)
 
 pub visit-requires : goal.visit-requires
 visit-requires t c =
     let at = goal.at.visit-requires t c in
-    let e = c.child.ensures.is ∙ ap (λ (x : Cube). child_cube x c.first-k.result) c.parent_of-parent.ensures in
+    let e = c.child.ensures.is ∙ ap (λ (x : Cube). child_cube x c.in-Some.k) c.parent_of-parent.ensures in
     let r = allowed_row _ _ _ _ _ c.may_enter.ensures c.if-may_enter.true c.octant_limit-limit.ensures in (
       omega (arith, c.decreases, deep_at t at.Else-ends, child_depth c.args.cube _ _ e),
-      (c.child.ensures.within, (turning_counting _ _ _ _ _ _ c.loop-left.invariant (after_enter t at.After-enter), r)),
+      (c.child.ensures.within, (turning_counting _ _ _ _ _ _ c.loop-k.invariant (after_enter t at.After-enter), r)),
     )
 
-pub loop-left-smaller-then-may_enter : goal.loop-left-smaller-then-may_enter
-loop-left-smaller-then-may_enter t c =
-    let f = found t (goal.at.loop-left-smaller-then-may_enter t c).After-first-k in
-    omega (arith, c.without-left.ensures, f.within, pow_pos c.first-k.result)
-
-pub loop-left-preserved-then-may_enter : goal.loop-left-preserved-then-may_enter
-loop-left-preserved-then-may_enter t c =
-    let at = goal.at.loop-left-preserved-then-may_enter t c in
-    turning_visited _ _ _ _ _ _ c.loop-left.invariant c.loop-left-test.true _ c.first-k.ensures _ c.without-left.ensures
+pub loop-k-preserved-then-may_enter : goal.loop-k-preserved-then-may_enter
+loop-k-preserved-then-may_enter t c =
+    let at = goal.at.loop-k-preserved-then-may_enter t c in
+    turning_visited _ _ _ _ _ _ c.loop-k.invariant c.in-Some.ensures.steps
     (permitted t at.After-may_enter ∙ c.if-may_enter.true)
     (child_visited c.args.cube _ (halved t at.After-parent_of-parent) _ _ _ _ _ _ _
-    (c.child.ensures.is ∙ ap (λ (x : Cube). child_cube x c.first-k.result) c.parent_of-parent.ensures) c.octant_child-next.ensures c.visit.ensures)
+    (c.child.ensures.is ∙ ap (λ (x : Cube). child_cube x c.in-Some.k) c.parent_of-parent.ensures) c.octant_child-next.ensures c.visit.ensures)
 
-pub loop-left-smaller : goal.loop-left-smaller
-loop-left-smaller t c =
-    let f = found t (goal.at.loop-left-smaller t c).After-first-k in
-    omega (arith, c.without-left.ensures, f.within, pow_pos c.first-k.result)
-
-pub loop-left-preserved : goal.loop-left-preserved
-loop-left-preserved t c =
-    let at = goal.at.loop-left-preserved t c in
-    turning_barred _ _ _ _ _ _ c.loop-left.invariant c.loop-left-test.true _ c.first-k.ensures _ c.without-left.ensures
+pub loop-k-preserved : goal.loop-k-preserved
+loop-k-preserved t c =
+    let at = goal.at.loop-k-preserved t c in
+    turning_barred _ _ _ _ _ _ c.loop-k.invariant c.in-Some.ensures.steps
     (permitted t at.After-may_enter ∙ c.if-may_enter.false)
 
 pub shape_of-listing : goal.shape_of-listing
-shape_of-listing t c = visited_long c.loop-left.invariant.visited
+shape_of-listing t c = visited_long c.loop-k.invariant.visited
 
 pub returns : goal.returns
 returns t c =
     let p = c.requires in
     turns_visited _ _ _ _ _ _ _ p.within p.counting p.next_bound.0 p.next_bound.1 c.enter.ensures c.inside-whole.result c.ends.result
-    c.inside-whole.ensures c.ends.ensures c.if-ends.false (turning_ends _ _ _ _ _ _ c.loop-left.invariant c.loop-left-test.false)
+    c.inside-whole.ensures c.ends.ensures c.if-ends.false (turning_ends _ _ _ _ _ _ c.loop-k.invariant c.in-None.ensures.steps.0)

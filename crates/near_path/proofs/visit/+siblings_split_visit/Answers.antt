@@ -5,17 +5,18 @@ use mathlib.Core.List.{List}
 use mathlib.Core.Path.{◌≡◌, sym, ap, ap₂, ◌∙◌, subst}
 use Rattle.colour.specs.declared.Cube.{Cube}
 use native.Mathlib.Omega.{arith}
-use lib.Pow.{pow_pos}
 use Rattle.colour.specs.declared.Probe.{Probe}
 use Rattle.colour.specs.Octant.{depths}
-use Rattle.colour.proofs.Laws.Mask.{First}
 use Rattle.traversal.specs.Squares.{Squares}
 use Rattle.traversal.specs.declared.spot.Spot.{Spot}
 use Rattle.traversal.specs.declared.spot.Fork.{Fork}
 use Rattle.traversal.specs.Nearby.{turn_within, far_of, SmallSquares}
 use Rattle.traversal.specs.Children.{child_at}
+use Rattle.traversal.specs.Places.{children_in}
+use Rattle.traversal.specs.declared.children.Children.{Children}
 use Rattle.traversal.specs.Search.{Searching, search_entering, own_search}
 use Rattle.traversal.specs.Spot.{Stood, Forked, fork_of, turn_at, siblings_at, split_at}
+use Rattle.traversal.proofs.Laws.Places.{NextChild}
 use Rattle.traversal.proofs.Laws.Cubes.{limit_rows}
 use Rattle.traversal.proofs.Laws.Search.Keeps.{entering_within, still_ready}
 use Rattle.traversal.proofs.Laws.Search.Spots.{first_small, kid_small, kid_turn, kid_first, far_rising, turn_small}
@@ -28,7 +29,7 @@ use Rattle.near_path.specs.Steps.{search_as, search_in, search_after}
 use Rattle.near_path.proofs.Laws.Closer.{best_steady, best_beyond}
 use Rattle.near_path.proofs.Laws.Starting.{lent_ready}
 use Rattle.near_path.proofs.visit.+siblings_split_visit.Goals as goal
-use Rattle.near_path.proofs.visit.+siblings_split_visit.Goals.{siblings-In-loop-left, siblings-After-first-turn, siblings-After-reaches, split-After-reaches, split-Joined-reaches, split-then-reaches, split-else-reaches, visit-After-enter}
+use Rattle.near_path.proofs.visit.+siblings_split_visit.Goals.{siblings-In-Some, siblings-After-reaches, split-After-reaches, split-Joined-reaches, split-then-reaches, split-else-reaches, visit-After-enter}
 
 -- What is known of the siblings when the loop begins.
 known : (ws : List ℕ) (lent : Search) {p : Probe} {spot : Spot} {fork : Fork} {far : Squares} → Forked p spot fork → far ≡ far_of p fork.half spot.cube.low
@@ -41,38 +42,35 @@ far_is : (p : Probe) (half half' : ℕ) (cube cube' : Cube) {far : Squares} → 
     → far ≡ far_of p half cube.low
 far_is p half half' cube cube' e h c = e ∙ ap₂ (λ (s : ℕ) (x : Cube). far_of p s x.low) h c
 
-turning : (t : ℕ) (c : siblings-In-loop-left t) → SearchReady c.args.tables.now.samples.now c.args.tables.now.octants.now (search_in c.loop-left.search)
-turning t c = still_ready c.requires.ready c.loop-left.invariant.limits
+turning : (t : ℕ) (c : siblings-In-Some t) → SearchReady c.args.tables.now.samples.now c.args.tables.now.octants.now (search_in c.loop-turn.search)
+turning t c = still_ready c.requires.ready c.loop-turn.invariant.limits
 
 -- The sibling that is next, and what is told of its turn.
-found : (t : ℕ) (c : siblings-After-first-turn t)
-    → First (turn_within (search_in c.args.search.now).kept.distance c.args.spot.near c.far_of-far.result) c.loop-left.invariant.done 8 c.loop-left.left
-    c.first-turn.result
+found : (t : ℕ) (c : siblings-In-Some t)
+    → NextChild (turn_within (search_in c.args.search.now).kept.distance c.args.spot.near c.far_of-far.result) c.loop-turn.invariant.done c.in-Some.turn
+    (children_in c.next.new.self.left)
 found t c =
-    next_is (known c.args.tables.now.samples.now c.args.search.now c.requires.forked.0 (far_is c.args.p _ _ c.args.spot.cube _ c.far_of-far.ensures c.parent_at.ensures.half c.parent_at.ensures.cube)) c.loop-left.invariant c.loop-left-test.true
-    c.first-turn.ensures
+    next_is (known c.args.tables.now.samples.now c.args.search.now c.requires.forked.0 (far_is c.args.p _ _ c.args.spot.cube _ c.far_of-far.ensures c.parent_at.ensures.half c.parent_at.ensures.cube)) c.loop-turn.invariant c.in-Some.ensures.steps
 
 told : (t : ℕ) (c : siblings-After-reaches t)
-    → Told (bests c.args.tables.now.samples.now c.args.p) c.args.tables.now.samples.now c.args.tables.now.octants.now c.args.p c.args.row c.args.spot c.first-turn.result
-    (search_in c.loop-left.search) c.child_at-next.result c.sibling_spot-to.result c.reaches.result
+    → Told (bests c.args.tables.now.samples.now c.args.p) c.args.tables.now.samples.now c.args.tables.now.octants.now c.args.p c.args.row c.args.spot c.in-Some.turn
+    (search_in c.loop-turn.search) c.child_at-next.result c.sibling_spot-to.result c.reaches.result
 told t c =
     turn_told (c.child_at-next.ensures ∙ ap (child_at c.args.tables.now.octants.now c.args.row) (kid_turn c.requires.forked.0 _)) c.sibling_spot-to.ensures
     c.sum_by.ensures c.octant_limit-limit.ensures (c.reaches.ensures c.args.tables.now.samples.now c.args.p)
 
-pub siblings-turns-left-requires : goal.siblings-turns-left-requires
-siblings-turns-left-requires t c = far_rising c.requires.forked.0 (far_is c.args.p _ _ c.args.spot.cube _ c.far_of-far.ensures c.parent_at.ensures.half c.parent_at.ensures.cube)
+pub siblings-turns-requires : goal.siblings-turns-requires
+siblings-turns-requires t c = far_rising c.requires.forked.0 (far_is c.args.p _ _ c.args.spot.cube _ c.far_of-far.ensures c.parent_at.ensures.half c.parent_at.ensures.cube)
 
-pub siblings-loop-left-init : goal.siblings-loop-left-init
-siblings-loop-left-init t c = turning_begins _ _ _ _ _ _ _ _ _ c.requires.ready.limits c.turns-left.ensures
-
-pub siblings-without-left-requires : goal.siblings-without-left-requires
-siblings-without-left-requires t c =
-    let f = found t (goal.at.siblings-without-left-requires t c).After-first-turn in
-    (omega (arith, f.below), f.within)
+pub siblings-loop-turn-init : goal.siblings-loop-turn-init
+siblings-loop-turn-init t c =
+    turning_begins _ _ _ _ _ _ _ _ _ c.requires.ready.limits
+    (ap (λ (x : Children). children_in x.left) c.into_iter-turn-iterator.ensures.into_iter_gives ∙ c.children_in-turn-items.ensures)
+    c.turns.ensures
 
 pub siblings-child_at-next-requires : goal.siblings-child_at-next-requires
 siblings-child_at-next-requires t c =
-    let f = found t (goal.at.siblings-child_at-next-requires t c).After-first-turn in
+    let f = found t (goal.at.siblings-child_at-next-requires t c).In-Some in
     (limit_rows _ _ c.requires.forked.1, kid_small c.requires.forked.0 _ f.below)
 
 pub siblings-sum_by-requires : goal.siblings-sum_by-requires
@@ -85,35 +83,23 @@ siblings-visit-requires t c =
     let f = c.requires.forked.0 in
     let d = subst (Told _ _ _ _ _ _ _ _ _ _) c.if-reaches.true (told t at.After-reaches) in (
       omega (arith, c.decreases, told_depth d f, f.deep),
-      ((told_stood d f, (told_room d).0), (turning t at.In-loop-left, (told_room d).1)),
+      ((told_stood d f, (told_room d).0), (turning t at.In-Some, (told_room d).1)),
     )
 
-pub siblings-loop-left-smaller-then-reaches : goal.siblings-loop-left-smaller-then-reaches
-siblings-loop-left-smaller-then-reaches t c =
-    let f = found t (goal.at.siblings-loop-left-smaller-then-reaches t c).After-first-turn in
-    omega (arith, c.without-left.ensures, f.within, pow_pos c.first-turn.result)
+pub siblings-loop-turn-preserved-then-reaches : goal.siblings-loop-turn-preserved-then-reaches
+siblings-loop-turn-preserved-then-reaches t c =
+    let at = goal.at.siblings-loop-turn-preserved-then-reaches t c in
+    turning_visited (known c.args.tables.now.samples.now c.args.search.now c.requires.forked.0 (far_is c.args.p _ _ c.args.spot.cube _ c.far_of-far.ensures c.parent_at.ensures.half c.parent_at.ensures.cube)) c.loop-turn.invariant c.in-Some.ensures.steps (subst (Told _ _ _ _ _ _ _ _ _ _) c.if-reaches.true (told t at.After-reaches)) (ap search_in c.visit.ensures)
 
-pub siblings-loop-left-preserved-then-reaches : goal.siblings-loop-left-preserved-then-reaches
-siblings-loop-left-preserved-then-reaches t c =
-    let at = goal.at.siblings-loop-left-preserved-then-reaches t c in
-    turning_visited (known c.args.tables.now.samples.now c.args.search.now c.requires.forked.0 (far_is c.args.p _ _ c.args.spot.cube _ c.far_of-far.ensures c.parent_at.ensures.half c.parent_at.ensures.cube)) c.loop-left.invariant c.loop-left-test.true
-    c.first-turn.ensures c.without-left.ensures (subst (Told _ _ _ _ _ _ _ _ _ _) c.if-reaches.true (told t at.After-reaches)) (ap search_in c.visit.ensures)
-
-pub siblings-loop-left-smaller : goal.siblings-loop-left-smaller
-siblings-loop-left-smaller t c =
-    let f = found t (goal.at.siblings-loop-left-smaller t c).After-first-turn in
-    omega (arith, c.without-left.ensures, f.within, pow_pos c.first-turn.result)
-
-pub siblings-loop-left-preserved : goal.siblings-loop-left-preserved
-siblings-loop-left-preserved t c =
-    let at = goal.at.siblings-loop-left-preserved t c in
-    turning_barred (known c.args.tables.now.samples.now c.args.search.now c.requires.forked.0 (far_is c.args.p _ _ c.args.spot.cube _ c.far_of-far.ensures c.parent_at.ensures.half c.parent_at.ensures.cube)) c.loop-left.invariant c.loop-left-test.true
-    c.first-turn.ensures c.without-left.ensures (subst (Told _ _ _ _ _ _ _ _ _ _) c.if-reaches.false (told t at.After-reaches))
+pub siblings-loop-turn-preserved : goal.siblings-loop-turn-preserved
+siblings-loop-turn-preserved t c =
+    let at = goal.at.siblings-loop-turn-preserved t c in
+    turning_barred (known c.args.tables.now.samples.now c.args.search.now c.requires.forked.0 (far_is c.args.p _ _ c.args.spot.cube _ c.far_of-far.ensures c.parent_at.ensures.half c.parent_at.ensures.cube)) c.loop-turn.invariant c.in-Some.ensures.steps (subst (Told _ _ _ _ _ _ _ _ _ _) c.if-reaches.false (told t at.After-reaches))
 
 pub siblings-returns : goal.siblings-returns
 siblings-returns t c =
     ap search_as
-    (turning_ends (known c.args.tables.now.samples.now c.args.search.now c.requires.forked.0 (far_is c.args.p _ _ c.args.spot.cube _ c.far_of-far.ensures c.parent_at.ensures.half c.parent_at.ensures.cube)) c.loop-left.invariant c.loop-left-test.false)
+    (turning_ends (known c.args.tables.now.samples.now c.args.search.now c.requires.forked.0 (far_is c.args.p _ _ c.args.spot.cube _ c.far_of-far.ensures c.parent_at.ensures.half c.parent_at.ensures.cube)) c.loop-turn.invariant c.in-None.ensures.steps.0)
 
 -- Where the children of an octant are gone through.
 parted : {p : Probe} {spot : Spot} {fork : Fork} → (Stood p spot) × (spot.cube.depth < 16) → fork ≡ fork_of p spot.cube → Forked p spot fork

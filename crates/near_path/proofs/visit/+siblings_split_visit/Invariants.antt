@@ -1,6 +1,7 @@
--- In `visit::siblings` the siblings before `done` were taken or would change nothing, and the mask has the others. The measure of the recursion is three
+-- In `visit::siblings` the siblings before `done` were taken or would change nothing, and the others are still to come. The measure of the recursion is three
 -- times the depth left, one more in `split` and two more in `visit`.
 use Prim.Native.Nat.{suc, ◌-◌, ◌*◌}
+use Rattle.traversal.specs.Places.{children_in}
 use Rattle.traversal.proofs.Laws.Search.Path.{Turning}
 use Rattle.near_path.specs.Best.{bests}
 use Rattle.near_path.specs.Steps.{search_in}
@@ -15,10 +16,7 @@ decreases-split l = suc (3 * (16 - l.spot.cube.depth))
 abbrev pub decreases-visit : goal.decreases-visit
 decreases-visit l = suc (suc (3 * (16 - l.spot.cube.depth)))
 
-abbrev pub invariant-siblings-loop-left : goal.invariant-siblings-loop-left
-invariant-siblings-loop-left l =
-    Turning (bests l.tables.samples.now l.p) l.tables.samples.now l.tables.octants.now l.p l.row l.spot l.far (search_in l.initial.search).kept.distance (search_in l.initial.search) l.left
-    (search_in l.search)
-
-abbrev pub decreases-siblings-loop-left : goal.decreases-siblings-loop-left
-decreases-siblings-loop-left l = l.left
+abbrev pub invariant-siblings-loop-turn : goal.invariant-siblings-loop-turn
+invariant-siblings-loop-turn l =
+    Turning (bests l.tables.samples.now l.p) l.tables.samples.now l.tables.octants.now l.p l.row l.spot l.far (search_in l.initial.search).kept.distance (search_in l.initial.search)
+    (children_in l.turn-iterator.left) (search_in l.search)

@@ -1,30 +1,31 @@
--- The loop over the siblings of the closest child: those before `done` were taken or would change nothing, and the mask has the others. A sibling that is
+-- The loop over the siblings of the closest child: those before `done` were taken or would change nothing, and the others are still to come. A sibling that is
 -- farther than what was kept when the mask was made never comes before what is kept later.
-use Prim.Native.Nat.{ℕ, zero, suc, ◌-◌, ◌^◌, ◌≤◌, ◌<◌}
+use Prim.Native.Nat.{ℕ, zero, suc, ◌≤◌, ◌<◌}
 use mathlib.Core.Bool.{Bool, true, false}
-use mathlib.Core.List.{List}
+use mathlib.Core.List.{List, [], ◌∷◌}
 use mathlib.Core.Logic.{inl, inr}
 use mathlib.Core.Path.{◌≡◌, refl, sym, ap, ◌∙◌, subst}
 use native.Mathlib.Nat.{eq-or-lt_of_le}
 use native.Mathlib.Omega.{arith}
 use borrow.Author.Tests.{le-leb}
-use lib.Count.{count_trailing_zeros}
 use Rattle.colour.specs.declared.Probe.{Probe}
 use Rattle.traversal.specs.Squares.{Squares}
 use Rattle.colour.specs.Octant.{children}
 use Rattle.colour.specs.Mask.{mask_of}
 use Rattle.traversal.specs.Nearby.{far_of, sum_by, turn_within, turn_mask}
-use Rattle.colour.proofs.Laws.Mask.{from, First, mask_none, mask_first, mask_same}
+use Rattle.colour.proofs.Laws.Mask.{from, mask_same}
 use Rattle.traversal.proofs.Laws.Nearby.{turn_farther}
 use Rattle.model.specs.Layout.{current}
 use Rattle.words.specs.Rows.{octant_limit, sample_budget}
 use Rattle.traversal.specs.declared.spot.Spot.{Spot}
 use Rattle.traversal.specs.declared.spot.Fork.{Fork}
 use Rattle.traversal.specs.Children.{child_at}
+use Rattle.traversal.specs.Places.{children_in}
 use Rattle.traversal.specs.Turns.{in_turn}
 use Rattle.traversal.specs.Search.{Store, Searching}
 use Rattle.traversal.specs.Steps.{SearchWithin}
 use Rattle.traversal.specs.Spot.{turn_number, turn_spot, Forked, search_at, turn_at, sibling_turn, siblings_at}
+use Rattle.traversal.proofs.Laws.Places.{NextChild, next_child, no_child}
 use Rattle.traversal.proofs.Laws.Search.Keeps.{Steady, search_within, search_past}
 use Rattle.traversal.proofs.Laws.Search.Spots.{turned_near, turn_passed, Told, told_barred, told_entered, told_room}
 
@@ -40,27 +41,27 @@ turns_skipped F a p (suc n) h e =
     ]
 
 -- Where the loop stands, with the search as it was before it, and the most that a sibling may be away.
-pub record Turning {S : Type 0} (K : Store S) (ws os : List ℕ) (p : Probe) (row : ℕ) (spot : Spot) (far : Squares) (most : ℕ) (start : Searching S) (mask : ℕ)
+pub record Turning {S : Type 0} (K : Store S) (ws os : List ℕ) (p : Probe) (row : ℕ) (spot : Spot) (far : Squares) (most : ℕ) (start : Searching S) (ahead : List ℕ)
     (s : Searching S) : Type 0 where
   pub done : ℕ
   pub some : 1 ≤ done
   pub few : done ≤ 8
-  pub left : mask ≡ mask_of (from done (turn_within most spot.near far)) 8
+  pub left : ahead ≡ children_in (mask_of (from done (turn_within most spot.near far)) 8)
   pub so_far : s ≡ in_turn (sibling_turn K ws os p row spot) done start
   pub past : (d at : ℕ) → K.closer start.kept d at ≡ false → K.closer s.kept d at ≡ false
   pub limits : SearchWithin (sample_budget current ws) (octant_limit current os) s
 
 module _ {S : Type 0} (K : Store S) (ws os : List ℕ) (p : Probe) (row : ℕ) (spot : Spot) (far : Squares) (most : ℕ) (start : Searching S) where
   -- Before the loop no sibling was taken.
-  pub turning_begins : {mask : ℕ} → SearchWithin (sample_budget current ws) (octant_limit current os) start → mask ≡ turn_mask most spot.near far
-      → Turning K ws os p row spot far most start mask start
+  pub turning_begins : {ahead : List ℕ} {mask : ℕ} → SearchWithin (sample_budget current ws) (octant_limit current os) start → ahead ≡ children_in mask
+      → mask ≡ turn_mask most spot.near far → Turning K ws os p row spot far most start ahead start
   unfolding turn_mask turn_within children in_turn sibling_turn
-  turning_begins limits e =
+  turning_begins limits given e =
       record {
         done = 1;
         some = omega arith;
         few = omega arith;
-        left = e ∙ mask_same f (from 1 f) 8 (λ i h. same i);
+        left = given ∙ ap children_in (e ∙ mask_same f (from 1 f) 8 (λ i h. same i));
         so_far = refl;
         past = λ d at h. h;
         limits = limits;
@@ -81,7 +82,7 @@ pub record Siblings {S : Type 0} (K : Store S) (p : Probe) (spot : Spot) (fork :
   pub steady : Steady K
 
 module _ {S : Type 0} {K : Store S} {ws os : List ℕ} {p : Probe} {row : ℕ} {spot : Spot} {fork : Fork} {far : Squares} {most : ℕ} {start : Searching S}
-    (known : Siblings K p spot fork far most start) {mask : ℕ} {s : Searching S} (g : Turning K ws os p row spot far most start mask s) where
+    (known : Siblings K p spot fork far most start) {ahead : List ℕ} {s : Searching S} (g : Turning K ws os p row spot far most start ahead s) where
   abbrev turn : ℕ → Searching S → Searching S
   turn = sibling_turn K ws os p row spot
 
@@ -107,46 +108,45 @@ module _ {S : Type 0} {K : Store S} {ws os : List ℕ} {p : Probe} {row : ℕ} {
       ∙ sym g.so_far
 
   -- All were taken.
-  pub turning_ends : mask ≡ 0 → s ≡ siblings_at K ws os p row spot start
+  pub turning_ends : ahead ≡ [] → s ≡ siblings_at K ws os p row spot start
   unfolding siblings_at children
-  turning_ends z = sym (up_to 8 g.few (λ i a b. mask_none inside g.done 8 (sym g.left ∙ z) i a b))
+  turning_ends none = sym (up_to 8 g.few (no_child inside g.done g.left none))
 
   -- The next one.
-  module _ (more : mask ≡ 0 → ⊥) {k : ℕ} (least : k ≡ count_trailing_zeros 32 mask) where
-    pub next_is : First (turn_within most spot.near far) g.done 8 mask k
-    next_is = subst (First inside g.done 8 mask) (sym least) (mask_first inside g.done 8 mask (omega arith) g.left more)
+  module _ {k : ℕ} {ahead' : List ℕ} (step : ahead ≡ k ∷ ahead') where
+    pub next_is : NextChild (turn_within most spot.near far) g.done k ahead'
+    next_is = next_child inside g.done g.left step
 
     one_more : in_turn turn (suc k) start ≡ turn_at K ws os p row spot k s
     unfolding in_turn
     one_more = ap (turn k) (up_to k next_is.least next_is.skipped) ∙ sibling_is k (omega (arith, g.some, next_is.least)) s
 
-    module _ {mask' : ℕ} (rest : mask' ≡ mask - 2 ^ k) where
-      -- It is not entered.
-      pub turning_barred : {next : ℕ} {to : Spot} → Told K ws os p row spot k s next to false → Turning K ws os p row spot far most start mask' s
-      turning_barred t =
-          record {
-            done = suc k;
-            some = omega arith;
-            few = next_is.below;
-            left = rest ∙ next_is.rest;
-            so_far = sym (one_more ∙ told_barred t);
-            past = g.past;
-            limits = g.limits;
-          }
+    -- It is not entered.
+    pub turning_barred : {next : ℕ} {to : Spot} → Told K ws os p row spot k s next to false → Turning K ws os p row spot far most start ahead' s
+    turning_barred t =
+        record {
+          done = suc k;
+          some = omega arith;
+          few = next_is.below;
+          left = next_is.rest;
+          so_far = sym (one_more ∙ told_barred t);
+          past = g.past;
+          limits = g.limits;
+        }
 
-      -- It was visited.
-      pub turning_visited : {next : ℕ} {to : Spot} → Told K ws os p row spot k s next to true → {s' : Searching S} → s' ≡ search_at K ws os p next to s
-          → Turning K ws os p row spot far most start mask' s'
-      unfolding search_at
-      turning_visited t is =
-          let room : s.entered < octant_limit current os = (told_room t).1 in
-          record {
-            done = suc k;
-            some = omega arith;
-            few = next_is.below;
-            left = rest ∙ next_is.rest;
-            so_far = is ∙ sym (one_more ∙ told_entered t);
-            past = λ d at h. ap (λ (u : Searching S). K.closer u.kept d at) is ∙ search_past K known.steady ws os p d at _ _ _ s room (g.past d at h);
-            limits =
-                subst (SearchWithin (sample_budget current ws) (octant_limit current os)) (sym is) (search_within K ws os p _ _ _ s room g.limits);
-          }
+    -- It was visited.
+    pub turning_visited : {next : ℕ} {to : Spot} → Told K ws os p row spot k s next to true → {s' : Searching S} → s' ≡ search_at K ws os p next to s
+        → Turning K ws os p row spot far most start ahead' s'
+    unfolding search_at
+    turning_visited t is =
+        let room : s.entered < octant_limit current os = (told_room t).1 in
+        record {
+          done = suc k;
+          some = omega arith;
+          few = next_is.below;
+          left = next_is.rest;
+          so_far = is ∙ sym (one_more ∙ told_entered t);
+          past = λ d at h. ap (λ (u : Searching S). K.closer u.kept d at) is ∙ search_past K known.steady ws os p d at _ _ _ s room (g.past d at h);
+          limits =
+              subst (SearchWithin (sample_budget current ws) (octant_limit current os)) (sym is) (search_within K ws os p _ _ _ s room g.limits);
+        }
