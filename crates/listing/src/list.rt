@@ -23,7 +23,7 @@ fn how_many(tables: &Tables<'_>, region: Region) -> usize
 {
     let mut tally = Tally::new();
     let mut word = [0u32; 1];
-    pass(tables, region, &mut word, &mut tally);
+    pass(tables, &region, &mut word, &mut tally);
     tally.listed as usize
 }
 
@@ -34,7 +34,7 @@ fn write(tables: &Tables<'_>, region: Region, listing: &mut [u32]) -> Counts
         ≡ pass_answer (pass_of tables.now.samples.now tables.now.octants.now region) listing.old }
 {
     let mut tally = Tally::new();
-    pass(tables, region, listing, &mut tally);
+    pass(tables, &region, listing, &mut tally);
     Counts {
         listed: tally.listed,
         entered: tally.entered,

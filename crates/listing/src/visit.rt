@@ -20,7 +20,7 @@ use words::tables::Tables;
 // An entered octant's own samples.
 fn own_samples(
     tables: &Tables<'_>,
-    region: Region,
+    region: &Region,
     whole: bool,
     row: u32,
     listing: &mut [u32],
@@ -29,13 +29,13 @@ fn own_samples(
     requires counting { Counting tables.now.samples.now tables.now.octants.now tally.old }
     requires row_bound { row < octant_limit current tables.now.octants.now }
     ensures { Visited
-        (own_samples tables.now.samples.now tables.now.octants.now region whole row (tally_in tally.old))
+        (own_samples tables.now.samples.now tables.now.octants.now region.now whole row (tally_in tally.old))
         tally.old listing.old tally.new listing.new }
 {
     let most = most(tables, row, tally.visited);
     let run = follow(
         tables.samples,
-        region,
+        *region,
         whole,
         octant_first(tables.octants, row),
         most,
@@ -45,10 +45,10 @@ fn own_samples(
     tally.count(whole, run.seen, run.gathered);
 }
 
-// Enters the octant in a row.
+// Enters the octant in a row. (The region goes by reference: by value each call would copy it, in pieces that are read before they are there.)
 fn visit(
     tables: &Tables<'_>,
-    region: Region,
+    region: &Region,
     row: u32,
     cube: Cube,
     listing: &mut [u32],
@@ -58,18 +58,18 @@ fn visit(
     requires counting { Counting tables.now.samples.now tables.now.octants.now tally.old }
     requires next_bound { (tally.old.next ≤ row) × (row < octant_limit current tables.now.octants.now) }
     ensures { Visited
-        (visit_of tables.now.samples.now tables.now.octants.now region (16 - cube.depth) row cube.low (tally_in tally.old))
+        (visit_of tables.now.samples.now tables.now.octants.now region.now (16 - cube.depth) row cube.low (tally_in tally.old))
         tally.old listing.old tally.new listing.new }
 {
     tally.enter(row);
-    let whole = inside(region, cube);
+    let whole = inside(*region, cube);
     if ends(tables, whole, cube.depth, row) {
         own_samples(tables, region, whole, row, listing, tally);
         return;
     }
     let limit = tables.octant_limit();
     let parent = parent_of(cube);
-    for k in children_in(overlapping(region, parent)) {
+    for k in children_in(overlapping(*region, parent)) {
         let next = octant_child(tables.octants, row, k);
         if tally.may_enter(next, limit) {
             visit(tables, region, next, child(parent, k), listing, tally);
@@ -78,10 +78,10 @@ fn visit(
 }
 
 // A whole pass, with a fresh tally: the root is entered where it is there and overlaps.
-pub fn pass(tables: &Tables<'_>, region: Region, listing: &mut [u32], tally: &mut Tally)
+pub fn pass(tables: &Tables<'_>, region: &Region, listing: &mut [u32], tally: &mut Tally)
     requires blank { tally.old ≡ tally_of 0 no_tally }
     ensures visited { Visited
-        (pass_of tables.now.samples.now tables.now.octants.now region)
+        (pass_of tables.now.samples.now tables.now.octants.now region.now)
         tally.old listing.old tally.new listing.new }
     ensures bounded { TallyWithin
         (sample_budget current tables.now.samples.now) (octant_limit current tables.now.octants.now) (tally_in tally.new) }
@@ -89,7 +89,7 @@ pub fn pass(tables: &Tables<'_>, region: Region, listing: &mut [u32], tally: &mu
     let limit = tables.octant_limit();
     let all = root();
     if tally.may_enter(0, limit) {
-        if overlaps(region, all) {
+        if overlaps(*region, all) {
             visit(tables, region, 0, all, listing, tally);
         }
     }

@@ -18,13 +18,13 @@ use Rattle.listing.proofs.visit.+visit.Goals.{After-enter, Else-ends, After-pare
 after_enter : (t : ℕ) (c : After-enter t) → Counting c.args.tables.now.samples.now c.args.tables.now.octants.now c.enter.new.self
 after_enter t c =
     let p = c.requires in
-    entered_counting _ _ c.args.region _ _ _ _ p.within p.counting p.next_bound.0 p.next_bound.1 c.enter.ensures
+    entered_counting _ _ c.args.region.now _ _ _ _ p.within p.counting p.next_bound.0 p.next_bound.1 c.enter.ensures
 
 -- A split octant has depths below it, and its children have half its side.
 deep_at : (t : ℕ) (c : Else-ends t) → c.args.cube.depth < 16
 deep_at t c =
     let p = c.requires in
-    deep _ _ c.args.region _ _ _ _ p.within p.counting p.next_bound.0 p.next_bound.1 c.enter.ensures c.inside-whole.result c.ends.result
+    deep _ _ c.args.region.now _ _ _ _ p.within p.counting p.next_bound.0 p.next_bound.1 c.enter.ensures c.inside-whole.result c.ends.result
     c.inside-whole.ensures c.ends.ensures c.if-ends.false
 
 halved : (t : ℕ) (c : After-parent_of-parent t) → c.parent_of-parent.result.half ≡ side_at (suc c.args.cube.depth)
@@ -32,13 +32,13 @@ halved t c = c.parent_of-parent.result.halved ∙ ap (λ (x : Cube). side_at (su
 
 -- The child that is next.
 found : (t : ℕ) (c : In-Some t)
-    → NextChild (meets c.args.tables.now.samples.now c.args.tables.now.octants.now c.args.region (16 - c.args.cube.depth - 1) c.args.row c.args.cube.low)
+    → NextChild (meets c.args.tables.now.samples.now c.args.tables.now.octants.now c.args.region.now (16 - c.args.cube.depth - 1) c.args.row c.args.cube.low)
     c.loop-k.invariant.done c.in-Some.k (children_in c.next.new.self.left)
 found t c = is_first _ _ _ _ _ _ c.loop-k.invariant c.in-Some.ensures.steps
 
 -- Whether it may be entered.
 permitted : (t : ℕ) (c : After-may_enter t)
-    → allowed c.args.tables.now.samples.now c.args.tables.now.octants.now c.args.region (16 - c.args.cube.depth - 1) c.args.row c.args.cube.low
+    → allowed c.args.tables.now.samples.now c.args.tables.now.octants.now c.args.region.now (16 - c.args.cube.depth - 1) c.args.row c.args.cube.low
     c.in-Some.k (tally_in c.loop-k.tally)
     ≡ c.may_enter.result
 permitted t c =
@@ -76,7 +76,7 @@ loop-k-init t c =
     let at = goal.at.loop-k-init t c in
     turning_begins _ _ _ _ _ _ _ _ _ _
     (ap (λ (x : Children). children_in x.left) c.into_iter-k-iterator.ensures.into_iter_gives ∙ c.children_in-k-items.ensures)
-    (mask_is c.args.cube _ (halved t at.After-parent_of-parent) _ _ (c.overlapping.ensures.is ∙ ap (λ (x : Cube). overlap_mask c.args.region c.parent_of-parent.result.half x.low) c.parent_of-parent.ensures))
+    (mask_is c.args.cube _ (halved t at.After-parent_of-parent) _ _ (c.overlapping.ensures.is ∙ ap (λ (x : Cube). overlap_mask c.args.region.now c.parent_of-parent.result.half x.low) c.parent_of-parent.ensures))
 
 pub octant_child-next-requires : goal.octant_child-next-requires
 octant_child-next-requires t c =

@@ -17,12 +17,12 @@ octant_first-requires c =
 pub follow-run-requires : goal.follow-run-requires
 follow-run-requires c =
     let k = c.requires.counting in
-    own_start _ _ c.args.region c.args.whole _ c.args.tally.now _ _ refl c.most-most.ensures k
+    own_start _ _ c.args.region.now c.args.whole _ c.args.tally.now _ _ refl c.most-most.ensures k
 
 pub count-requires : goal.count-requires
 count-requires c =
     let k = c.requires.counting in
-    let room = own_room _ _ c.args.region c.args.whole _ c.args.tally.now _ _ _ c.octant_first.ensures c.most-most.ensures c.follow-run.ensures.seen k.limits.visited in
+    let room = own_room _ _ c.args.region.now c.args.whole _ c.args.tally.now _ _ _ c.octant_first.ensures c.most-most.ensures c.follow-run.ensures.seen k.limits.visited in
     (k.limits.measured, omega (arith, room, budget_most c.args.tables.now.samples.now))
 
 pub returns : goal.returns

@@ -7,7 +7,7 @@ use Rattle.listing.proofs.visit.pass.Goals as goal
 pub visit-requires : goal.visit-requires
 visit-requires c =
     let l = c.octant_limit-limit in
-    let r = allowed_row _ _ _ _ _ c.may_enter.ensures c.if-may_enter.true l.ensures in record { within = c.root-all.ensures.within; counting = fresh_counting _ _ c.args.region _ c.requires.blank (omega (arith, l.ensures, l.type_inv)); next_bound = r }
+    let r = allowed_row _ _ _ _ _ c.may_enter.ensures c.if-may_enter.true l.ensures in record { within = c.root-all.ensures.within; counting = fresh_counting _ _ c.args.region.now _ c.requires.blank (omega (arith, l.ensures, l.type_inv)); next_bound = r }
 
 pub returns-then-overlaps : goal.returns-then-overlaps
 returns-then-overlaps c =
