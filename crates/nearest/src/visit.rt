@@ -49,21 +49,21 @@ fn reaches(search: Search, row: u32, limit: u32, gaps: Channels<Halves>, k: u32)
 }
 
 // Enters the octant in a row. Turn 0 takes the child that the centre lies in or is closest to; each other turn one that differs from it in the
-// channels of the turn's bits.
-fn visit(tables: &Tables<'_>, centre: Codes, row: u32, cube: Cube, from: Search) -> Search
+// channels of the turn's bits. (The centre goes by reference: by value each call would copy it, in pieces that are read before they are there.)
+fn visit(tables: &Tables<'_>, centre: &Codes, row: u32, cube: Cube, from: Search) -> Search
     requires within { Within cube }
     requires ready { Ready tables.now.samples.now tables.now.octants.now from }
     requires row_bound { (row < octant_limit current tables.now.octants.now) × (from.entered < octant_limit current tables.now.octants.now) }
-    ensures { result ≡ search_of tables.now.samples.now tables.now.octants.now centre (16 - cube.depth) row cube.low from }
+    ensures { result ≡ search_of tables.now.samples.now tables.now.octants.now centre.now (16 - cube.depth) row cube.low from }
 {
     let mut search = enter(from);
     if ends(tables, false, cube.depth, row) {
-        return own(tables, centre, row, search);
+        return own(tables, *centre, row, search);
     }
     let limit = tables.octant_limit();
     let parent = parent_of(cube);
-    let gaps = gaps_of(centre, parent);
-    let first = closest_child(centre, parent);
+    let gaps = gaps_of(*centre, parent);
+    let first = closest_child(*centre, parent);
     for turn in 0..CHILDREN {
         let k = first ^ turn;
         let next = octant_child(tables.octants, row, k);
@@ -98,7 +98,7 @@ pub fn nearest(tables: &Tables<'_>, centre: Codes, radius: u32) -> Best
         let best = none.best;
         return best;
     }
-    let found = visit(tables, centre, 0, root(), none);
+    let found = visit(tables, &centre, 0, root(), none);
     let best = found.best;
     best
 }

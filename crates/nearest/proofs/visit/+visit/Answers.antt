@@ -18,7 +18,7 @@ use Rattle.nearest.proofs.visit.+visit.Goals.{After-enter-search, After-closest_
 entered : (t : ℕ) (c : After-enter-search t) → Ready c.args.tables.now.samples.now c.args.tables.now.octants.now c.enter-search.result
 entered t c =
     subst (Ready c.args.tables.now.samples.now c.args.tables.now.octants.now) (sym c.enter-search.ensures)
-    (entering_ready _ _ c.args.centre c.args.row c.args.cube.low _ c.requires.ready c.requires.row_bound.1)
+    (entering_ready _ _ c.args.centre.now c.args.row c.args.cube.low _ c.requires.ready c.requires.row_bound.1)
 
 -- A split octant has depths below it, and its children have half its side.
 deep_at : (t : ℕ) (c : Else-ends t) → c.args.cube.depth < 16
@@ -28,11 +28,11 @@ halved : (t : ℕ) (c : After-parent_of-parent t) → c.parent_of-parent.result.
 halved t c = c.parent_of-parent.result.halved ∙ ap (λ (x : Cube). side_at (suc x.depth)) c.parent_of-parent.ensures
 
 -- The closest child, and what the halves add, are those of the octant itself.
-first_is : (t : ℕ) (c : After-closest_child-first t) → c.closest_child-first.result ≡ closest_child c.args.centre c.parent_of-parent.result.half c.args.cube.low
-first_is t c = c.closest_child-first.ensures.is ∙ ap (λ (x : Cube). closest_child c.args.centre c.parent_of-parent.result.half x.low) c.parent_of-parent.ensures
+first_is : (t : ℕ) (c : After-closest_child-first t) → c.closest_child-first.result ≡ closest_child c.args.centre.now c.parent_of-parent.result.half c.args.cube.low
+first_is t c = c.closest_child-first.ensures.is ∙ ap (λ (x : Cube). closest_child c.args.centre.now c.parent_of-parent.result.half x.low) c.parent_of-parent.ensures
 
-gaps_are : (t : ℕ) (c : After-gaps_of-gaps t) → c.gaps_of-gaps.result ≡ gaps_of c.args.centre c.parent_of-parent.result.half c.args.cube.low
-gaps_are t c = c.gaps_of-gaps.ensures.is ∙ ap (λ (x : Cube). gaps_of c.args.centre c.parent_of-parent.result.half x.low) c.parent_of-parent.ensures
+gaps_are : (t : ℕ) (c : After-gaps_of-gaps t) → c.gaps_of-gaps.result ≡ gaps_of c.args.centre.now c.parent_of-parent.result.half c.args.cube.low
+gaps_are t c = c.gaps_of-gaps.ensures.is ∙ ap (λ (x : Cube). gaps_of c.args.centre.now c.parent_of-parent.result.half x.low) c.parent_of-parent.ensures
 
 pub enter-search-requires : goal.enter-search-requires
 enter-search-requires t c = omega (arith, c.requires.ready.small, c.requires.row_bound)
