@@ -53,7 +53,8 @@ fn reaches(search: Search, row: u32, limit: u32, gaps: Channels<Halves>, k: u32)
 fn visit(tables: &Tables<'_>, centre: &Codes, row: u32, cube: Cube, from: Search) -> Search
     requires within { Within cube }
     requires ready { Ready tables.now.samples.now tables.now.octants.now from }
-    requires row_bound { (row < octant_limit current tables.now.octants.now) × (from.entered < octant_limit current tables.now.octants.now) }
+    requires row_bound { (row < octant_limit current tables.now.octants.now)
+        × (from.entered < octant_limit current tables.now.octants.now) }
     ensures { result ≡ search_of tables.now.samples.now tables.now.octants.now centre.now (16 - cube.depth) row cube.low from }
 {
     let mut search = enter(from);
