@@ -1,5 +1,5 @@
 // The octant rows of ordered entries: written, and compared with a table's.
-ghost use Rattle.std.specs.Prelude.{ℕ, ◌+◌, ◌-◌, ◌*◌, ◌^◌, ◌≤◌, ◌<◌, List, ◌++◌, Bool, ◌≡◌, length, drop, IfSome, is_some};
+ghost use Rattle.std.specs.Prelude.{ℕ, ◌+◌, ◌-◌, ◌*◌, ◌^◌, ◌≤◌, ◌<◌, List, ◌++◌, Bool, ◌≡◌, length, drop, replicate, IfSome, is_some};
 ghost use Rattle.model.specs.SampleSet.{octants_of};
 ghost use Rattle.model.specs.Layout.{current, octant_width};
 ghost use Rattle.words.specs.Rows.{octant_row_by};
@@ -13,18 +13,18 @@ use order::order::{child_shift, splits};
 use order::partition::sizes;
 use words::layout::{Octant, octant_is, octant_words, put_octant};
 
-// The octant that holds these entries, and the rows of its children.
-fn octant_of(part: &[u64], children: [u32; 8]) -> Octant
+// The octant that holds these entries, as one with no child.
+fn octant_of(part: &[u64]) -> Octant
     requires { (1 ≤ length part.now) × (length part.now ≤ 4096) }
     ensures says { Says result.first result.last result.count part.now }
-    ensures children { result.children ≡ children }
+    ensures children { result.children ≡ replicate 8 0 }
 {
     let n = part.len();
     Octant {
         first: row_of(part[0]),
         last: row_of(part[n - 1]),
         count: n as u32,
-        children,
+        children: [0; 8],
     }
 }
 
@@ -105,16 +105,16 @@ fn pass_all<R: Rows>(
     if n == 0 {
         return Some(0);
     }
-    let mut children = [0; 8];
+    let mut octant = octant_of(part);
     if !splits(n, bucket, left) {
-        return rows.pass(at, &octant_of(part, children)).then_some(1);
+        return rows.pass(at, &octant).then_some(1);
     }
     let counts = sizes(part, child_shift(left));
     let mut used = 1;
     let mut from = 0;
     for (k, size) in counts.iter().enumerate() {
         let end = from + *size;
-        children[k] = child_word(*size, number + used);
+        octant.children[k] = child_word(*size, number + used);
         used += pass_all(
             &part[from..end],
             bucket,
@@ -125,7 +125,7 @@ fn pass_all<R: Rows>(
         )?;
         from = end;
     }
-    rows.pass(at, &octant_of(part, children)).then_some(used)
+    rows.pass(at, &octant).then_some(used)
 }
 
 // Writes the rows of the octant that is row `number`, and of those below it, from the front of the rows lent on; says how many.

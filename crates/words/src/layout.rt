@@ -278,5 +278,8 @@ pub fn octant_is(rows: &[u32], octant: &Octant) -> bool
     ensures { (result ≡ true) ↔ (take (octant_width current) rows.now
         ≡ octant_row_by current octant.now.first octant.now.last octant.now.count octant.now.children) }
 {
-    rows[..OCTANT_WIDTH] == octant.row()[..]
+    (octant.first == rows[FIRST])
+        & (octant.last == rows[LAST])
+        & (octant.count == rows[COUNT])
+        & rows[CHILD..].starts_with(&octant.children)
 }

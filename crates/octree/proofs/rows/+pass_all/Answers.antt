@@ -1,7 +1,7 @@
 -- `rows::pass_all`: the children before k are passed, and their rows behind the place of the octant's own.
 use Prim.Native.Nat.{ℕ, ◌≤◌}
 use mathlib.Core.List.{List}
-use mathlib.Core.Path.{◌≡◌, refl, sym, ◌∙◌}
+use mathlib.Core.Path.{◌≡◌, sym, ap, ◌∙◌}
 use native.Mathlib.Omega.{arith}
 use lib.ListN.{length}
 use Rattle.model.specs.SampleSet.{splits}
@@ -29,26 +29,27 @@ returns-then-n-eq0-clause-rows g t c =
     (g.R.Rows.laws.none c.args.rows.now c.args.at c.requires.within.0)
 
 pub pass-requires : goal.pass-requires
-pass-requires g t c = omega (arith, own_room c.requires.rooted c.octant_of.ensures.says.held, c.requires.within.0)
+pass-requires g t c = omega (arith, own_room c.requires.rooted c.octant_of-octant.ensures.says.held, c.requires.within.0)
 
 pub returns-then-not-splits-clause-octants : goal.returns-then-not-splits-clause-octants
 returns-then-not-splits-clause-octants g t c =
     let no = split_told g t (goal.at.returns-then-not-splits-clause-octants g t c).After-splits ∙ c.if-not-splits.true in
-    let is = leaf_is c.octant_of.ensures.says c.args.bucket c.args.left c.args.number _ c.requires.rooted no in
+    let is = leaf_is c.octant_of-octant.ensures.says c.args.bucket c.args.left c.args.number _ c.requires.rooted no in
     rw c.then_some.ensures (count_told c.pass.result 1 _ is.0)
 
 pub returns-then-not-splits-clause-rows : goal.returns-then-not-splits-clause-rows
 returns-then-not-splits-clause-rows g t c =
     let no = split_told g t (goal.at.returns-then-not-splits-clause-rows g t c).After-splits ∙ c.if-not-splits.true in
-    let o = c.octant_of.ensures in
+    let o = c.octant_of-octant.ensures in
     let is = leaf_is o.says c.args.bucket c.args.left c.args.number _ c.requires.rooted no in
     rw (c.then_some.ensures, count_some c.pass.result 1, is.1) (rw o.children at c.pass.ensures)
 
 pub loop-k-init : goal.loop-k-init
 loop-k-init g t c = record {
+  says = c.octant_of-octant.ensures.says;
   opened = opened c.args.bucket c.args.left c.args.number c.child_shift.result c.args.part.now _ c.sizes-counts.result c.requires.rooted
       (split_told g t (goal.at.loop-k-init g t c).After-splits ∙ c.if-not-splits.false) c.child_shift.ensures.is c.sizes-counts.ensures;
-  passed = pass_begins _ _ _ _ _ refl;
+  passed = pass_begins _ _ _ _ _ (ap length c.octant_of-octant.ensures.children);
   given = given_none g.R.Rows.laws _ _ _ _ _ _
       (omega (arith, own_room c.requires.rooted (some_entry c.args.part.now c.if-n-eq0.false), c.requires.within.0));
 }
@@ -102,6 +103,7 @@ overflow_add-used g t c =
 pub loop-k-preserved : goal.loop-k-preserved
 loop-k-preserved g t c =
     let i = c.loop-k.invariant in record {
+      says = i.says;
       opened = i.opened;
       passed = pass_steps i.opened i.passed c.loop-k-test.true _ _ c.child_word.ensures c.in_ok-used.ensures.octants;
       given = given_more g.R.Rows.laws i.opened i.passed c.loop-k-test.true _ _ _ c.octant_words.ensures.is i.given c.in_ok-used.ensures.rows;
@@ -110,17 +112,16 @@ loop-k-preserved g t c =
 pub pass-requires-2 : goal.pass-requires-2
 pass-requires-2 g t c =
     let i = c.loop-k.invariant in
-    omega (arith, own_room c.requires.rooted c.octant_of-2.ensures.says.held, c.requires.within.0, g.R.Rows.laws.kept i.given)
+    omega (arith, own_room c.requires.rooted i.says.held, c.requires.within.0, g.R.Rows.laws.kept i.given)
 
 pub returns-clause-octants : goal.returns-clause-octants
 returns-clause-octants g t c =
     let i = c.loop-k.invariant in
     rw c.then_some-2.ensures
-    (count_told c.pass-2.result _ _ (split_is c.octant_of-2.ensures.says i.opened i.passed c.loop-k-test.false).0)
+    (count_told c.pass-2.result _ _ (split_is i.says i.opened i.passed c.loop-k-test.false).0)
 
 pub returns-clause-rows : goal.returns-clause-rows
 returns-clause-rows g t c =
     let i = c.loop-k.invariant in
-    let o = c.octant_of-2.ensures in
     rw (c.then_some-2.ensures, count_some c.pass-2.result _)
-    (given_ends g.R.Rows.laws o.says i.opened i.passed c.loop-k-test.false i.given (rw o.children at c.pass-2.ensures))
+    (given_ends g.R.Rows.laws i.says i.opened i.passed c.loop-k-test.false i.given c.pass-2.ensures)

@@ -1,16 +1,30 @@
 -- `layout::octant_is`: the row's eleven words.
-use mathlib.Core.Path.{sym, ◌∙◌}
+use Prim.Native.Nat.{◌-◌}
 use native.Mathlib.Omega.{arith}
-use lib.ListN.{take}
-use lib.Pointwise.{bytes_decides}
-use lib.Seq.{length-take-le}
+use lib.ListN.{length, drop, length-drop}
+use lib.Seq.{take_all}
 use Rattle.model.proofs.Tables.Numbers.{current_numbers}
+use Rattle.words.proofs.Laws.Layout.Octants.{octant_same}
 use Rattle.words.proofs.layout.octant_is.Goals as goal
 
-pub slice_bounds-eq-end : goal.slice_bounds-eq-end
-slice_bounds-eq-end c = sym (length-take-le 11 c.args.rows.now (omega (arith, current_numbers.octant_width_is)))
+pub bounds-rows-0 : goal.bounds-rows-0
+bounds-rows-0 c = omega (arith, current_numbers.octant_width_is)
+
+pub bounds-rows-1 : goal.bounds-rows-1
+bounds-rows-1 c = omega (arith, current_numbers.octant_width_is)
+
+pub bounds-rows-2 : goal.bounds-rows-2
+bounds-rows-2 c = omega (arith, current_numbers.octant_width_is)
+
+pub slice_bounds-starts_with-count : goal.slice_bounds-starts_with-count
+slice_bounds-starts_with-count c = omega (arith, current_numbers.octant_width_is)
+
+pub slice_bounds-starts_with-start : goal.slice_bounds-starts_with-start
+slice_bounds-starts_with-start c = omega (arith, current_numbers.octant_width_is)
 
 pub returns : goal.returns
 returns c =
-    let same = bytes_decides (take 11 c.args.rows.now) c.row.result in
-    rw (current_numbers.octant_width_is, c.eq.ensures) (λ e. same.0 e ∙ c.row.ensures, λ e. same.1 (e ∙ sym c.row.ensures))
+    let o = c.args.octant.now in
+    let rows = c.args.rows.now in
+    rw (c.starts_with.ensures.value, take_all (length rows - 3) (drop 3 rows) (omega (arith, length-drop 3 rows)))
+    (octant_same rows o.first o.last o.count o.children c.requires (omega arith))
