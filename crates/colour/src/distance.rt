@@ -1,5 +1,5 @@
 // The squared distance of two colours, in 64 bits: three squares of codes do not fit 32.
-ghost use Rattle.std.specs.Prelude.{◌≡◌, ◌+◌, ◌*◌, ◌≤◌};
+ghost use Rattle.std.specs.Prelude.{pos, ◌-ℤ◌, ◌≡◌, ◌+◌, ◌*◌, ◌≤◌};
 ghost use Rattle.colour.specs.Colour.{apart, distance, greatest_distance};
 
 use crate::{Channels, Codes};
@@ -12,35 +12,37 @@ pub fn square(x: u32) -> u64
     wide * wide
 }
 
-// The square of a difference of codes fits 32 bits.
-pub(crate) fn code_square(x: u16) -> u32
-    ensures is { result ≡ x * x }
-    ensures bounded { result ≤ 4294836225 }
-{
-    square(u32::from(x)) as u32
-}
-
-// What three channels come to, in 64 bits.
-pub(crate) fn sum_of(red: u32, green: u32, blue: u32) -> u64
-    ensures { result ≡ red + green + blue }
-{
-    u64::from(red) + u64::from(green) + u64::from(blue)
-}
-
-// The sum of the squares of three differences of codes.
-pub fn squares(gaps: Channels<u16>) -> u64
-    ensures is { result ≡ gaps.red * gaps.red + gaps.green * gaps.green + gaps.blue * gaps.blue }
+// The sum of three squares of codes.
+pub(crate) fn sum_of(red: u64, green: u64, blue: u64) -> u64
+    requires { (red ≤ 4294836225) × ((green ≤ 4294836225) × (blue ≤ 4294836225)) }
+    ensures is { result ≡ red + green + blue }
     ensures bounded { result ≤ greatest_distance }
 {
-    let Channels { red, green, blue } = gaps.map(code_square);
-    sum_of(red, green, blue)
+    red + green + blue
+}
+
+// The difference of two codes, which is less than 0 if the second is the greater.
+fn difference(x: u16, y: u16) -> i64
+    ensures { result ≡ pos x -ℤ pos y }
+{
+    i64::from(x) - i64::from(y)
+}
+
+// Its square. A sign is gone in it, so nothing needs to know which code is the greater.
+fn apart_square(x: u16, y: u16) -> u64
+    ensures is { result ≡ apart x y * apart x y }
+    ensures bounded { result ≤ 4294836225 }
+{
+    let apart = difference(x, y);
+    (apart * apart) as u64
 }
 
 // d² of two colours.
-#[tactic(auto, unfolding(crate::specs::Colour::distance, crate::specs::Colour::sum_of, crate::specs::Colour::apart, crate::specs::Colour::code_in))]
+#[tactic(auto, unfolding(crate::specs::Colour::distance, crate::specs::Colour::sum_of, crate::specs::Colour::code_in))]
 pub fn squared(a: Codes, b: Codes) -> u64
     ensures is { result ≡ distance a b }
     ensures bounded { result ≤ greatest_distance }
 {
-    squares(a.zip(b).map(|(x, y)| x.abs_diff(y)))
+    let Channels { red, green, blue } = a.zip(b).map(|(x, y)| apart_square(x, y));
+    sum_of(red, green, blue)
 }

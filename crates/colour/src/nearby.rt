@@ -23,8 +23,10 @@ pub fn gaps_of(c: Codes, parent: Parent) -> Channels<Halves>
 
 // The half of a bit: 1 is the upper one.
 #[tactic(auto, unfolding(crate::specs::Steps::half_at))]
-fn half_at(v: Halves, bit: u32) -> u32
-    ensures { result ≡ half_at v bit }
+fn half_at(v: Halves, bit: u32) -> u64
+    requires { Small v }
+    ensures is { result ≡ half_at v bit }
+    ensures bounded { result ≤ 4294836225 }
 {
     if bit == 0 { v.lower } else { v.upper }
 }
@@ -32,6 +34,7 @@ fn half_at(v: Halves, bit: u32) -> u32
 // d² to the closest colour of child k.
 #[tactic(auto, unfolding(crate::specs::Nearby::closest_by, crate::specs::Steps::child_sum, crate::specs::Colour::sum_of, crate::specs::Steps::of_channel, crate::specs::Octant::bit_weight))]
 pub fn closest_by(gaps: Channels<Halves>, k: u32) -> u64
+    requires { SmallGaps gaps }
     ensures { result ≡ closest_by gaps k }
 {
     sum_of(

@@ -1,13 +1,14 @@
 // How a region lies to a colour and to an octant. A channel's gap is worked out from the octant's least code and side, so the
 // closest and the farthest colour are never built.
-ghost use Rattle.std.specs.Prelude.{◌≡◌, ◌&&◌, ◌+◌, ◌<◌, ◌≤◌, leb, ltb};
+ghost use Rattle.std.specs.Prelude.{◌≡◌, ◌&&◌, ◌+◌, ◌*◌, ◌<◌, ◌≤◌, leb, ltb};
 ghost use Rattle.colour.specs.Colour.{apart, distance, greatest_distance};
 ghost use Rattle.colour.specs.Octant.{last_code, children, Within};
 ghost use Rattle.colour.specs.Region.{closest_code, farthest_code, closest, farthest, holds, overlaps, inside};
 ghost use Rattle.colour.specs.Mask.{bit_if, mask_of, overlap_mask};
+ghost use Rattle.colour.specs.Nearby.{SmallGaps};
 ghost use Rattle.colour.specs.Steps.{closest_square, missed, halves_of, of_channel, child_below, Small};
 
-use crate::distance::{code_square, square, squared, squares, sum_of};
+use crate::distance::{square, squared, sum_of};
 use crate::mask::bit_if;
 use crate::nearby::gaps_of;
 use crate::octant::Parent;
@@ -22,42 +23,57 @@ fn last_of(low: u32, side: u32) -> u32
     low + side - 1
 }
 
-// How far x is from the closest code of low .. low + side - 1.
-fn closest_gap(x: u32, low: u32, side: u32) -> u16
-    requires { (x ≤ 65535) × ((1 ≤ side) × (low + side ≤ 65536)) }
-    ensures { result ≡ apart x (closest_code low (last_code side low) x) }
+// How far x is from the closest code of low .. low + side - 1: one of the two differences is 0. Nothing branches, since on which side of an octant a centre
+// lies can't be foreseen.
+#[tactic(auto, unfolding(crate::specs::Colour::apart, crate::specs::Octant::last_code))]
+fn closest_gap(x: u16, low: u32, side: u32) -> u32
+    requires { (1 ≤ side) × (low + side ≤ 65536) }
+    ensures is { result ≡ apart x (closest_code low (last_code side low) x) }
+    ensures bounded { result ≤ 65535 }
 {
-    let last = last_of(low, side);
-    if x <= low {
-        return (low - x) as u16;
-    }
-    if last <= x {
-        return (x - last) as u16;
-    }
-    0
+    let x = u32::from(x);
+    low.saturating_sub(x) + x.saturating_sub(last_of(low, side))
 }
 
 // How far x is from the farthest code of low .. low + side - 1, which is the first or the last.
-fn farthest_gap(x: u32, low: u32, side: u32) -> u16
-    requires { (x ≤ 65535) × ((1 ≤ side) × (low + side ≤ 65536)) }
-    ensures { result ≡ apart x (farthest_code low (last_code side low) x) }
+fn farthest_gap(x: u16, low: u32, side: u32) -> u32
+    requires { (1 ≤ side) × (low + side ≤ 65536) }
+    ensures is { result ≡ apart x (farthest_code low (last_code side low) x) }
+    ensures bounded { result ≤ 65535 }
 {
-    let down = x.abs_diff(low);
-    let up = x.abs_diff(last_of(low, side));
-    if down <= up { up as u16 } else { down as u16 }
+    let x = u32::from(x);
+    x.abs_diff(low).max(x.abs_diff(last_of(low, side)))
+}
+
+// The squares of both.
+#[tactic(auto, unfolding(crate::specs::Steps::closest_square))]
+fn closest_square(x: u16, low: u32, side: u32) -> u64
+    requires { (1 ≤ side) × (low + side ≤ 65536) }
+    ensures is { result ≡ closest_square x side low }
+    ensures bounded { result ≤ 4294836225 }
+{
+    square(closest_gap(x, low, side))
+}
+
+fn farthest_square(x: u16, low: u32, side: u32) -> u64
+    requires { (1 ≤ side) × (low + side ≤ 65536) }
+    ensures is { result ≡ apart x (farthest_code low (last_code side low) x) * apart x (farthest_code low (last_code side low) x) }
+    ensures bounded { result ≤ 4294836225 }
+{
+    square(farthest_gap(x, low, side))
 }
 
 // d² from a colour to an octant's closest colour.
-#[tactic(auto, using(crate::proofs::Laws::Cubes::cube_room), unfolding(crate::specs::Colour::distance, crate::specs::Colour::sum_of, crate::specs::Region::closest, crate::specs::Colour::colour_by, crate::specs::Colour::code_in))]
+#[tactic(auto, using(crate::proofs::Laws::Cubes::cube_room), unfolding(crate::specs::Colour::distance, crate::specs::Colour::sum_of, crate::specs::Region::closest, crate::specs::Colour::colour_by, crate::specs::Colour::code_in, crate::specs::Steps::closest_square))]
 pub fn closest_distance(c: Codes, cube: Cube) -> u64
     requires { Within cube }
     ensures is { result ≡ distance c (closest c cube.side cube.low) }
     ensures bounded { result ≤ greatest_distance }
 {
-    squares(
-        c.zip(cube.low)
-            .map(|(x, low)| closest_gap(u32::from(x), low, cube.side)),
-    )
+    let Channels { red, green, blue } = c
+        .zip(cube.low)
+        .map(|(x, low)| closest_square(x, low, cube.side));
+    sum_of(red, green, blue)
 }
 
 // d² from a colour to an octant's farthest colour.
@@ -67,10 +83,10 @@ pub fn farthest_distance(c: Codes, cube: Cube) -> u64
     ensures is { result ≡ distance c (farthest c cube.side cube.low) }
     ensures bounded { result ≤ greatest_distance }
 {
-    squares(
-        c.zip(cube.low)
-            .map(|(x, low)| farthest_gap(u32::from(x), low, cube.side)),
-    )
+    let Channels { red, green, blue } = c
+        .zip(cube.low)
+        .map(|(x, low)| farthest_square(x, low, cube.side));
+    sum_of(red, green, blue)
 }
 
 // The box tests of one channel. `&` and not `&&`: no branch.
@@ -179,8 +195,8 @@ pub fn inside(region: Region, cube: Cube) -> bool
 // What each half of a channel adds to a child's sum: to the closest d² for a ball, a square of a code at most; 0 or 1 for a box.
 #[derive(Clone, Copy)]
 pub struct Halves {
-    pub lower: u32,
-    pub upper: u32,
+    pub lower: u64,
+    pub upper: u64,
 }
 
 // The first code of the upper half of low .. low + 2 × half - 1.
@@ -200,8 +216,8 @@ pub fn closest_squares(x: u16, low: u32, half: u32) -> Halves
 {
     let middle = middle_of(low, half);
     Halves {
-        lower: code_square(closest_gap(u32::from(x), low, half)),
-        upper: code_square(closest_gap(u32::from(x), middle, half)),
+        lower: closest_square(x, low, half),
+        upper: closest_square(x, middle, half),
     }
 }
 
@@ -214,13 +230,14 @@ fn misses(low: u32, high: u32, from: u32, half: u32) -> Halves
 {
     let middle = middle_of(from, half);
     Halves {
-        lower: u32::from(!some_between(low, high, from, half)),
-        upper: u32::from(!some_between(low, high, middle, half)),
+        lower: u64::from(!some_between(low, high, from, half)),
+        upper: u64::from(!some_between(low, high, middle, half)),
     }
 }
 
 // A child's bit.
-fn bit(red: u32, green: u32, blue: u32, limit: u64, weight: u32) -> u32
+fn bit(red: u64, green: u64, blue: u64, limit: u64, weight: u32) -> u32
+    requires { (red ≤ 4294836225) × ((green ≤ 4294836225) × (blue ≤ 4294836225)) }
     ensures is { result ≡ bit_if (ltb (red + green + blue) limit) weight }
     ensures bounded { result ≤ weight }
 {
@@ -229,6 +246,7 @@ fn bit(red: u32, green: u32, blue: u32, limit: u64, weight: u32) -> u32
 
 // The children whose halves add up to less than a limit. The eight sums share the six numbers, and nothing branches.
 fn mask(halves: Channels<Halves>, limit: u64) -> u32
+    requires { SmallGaps halves }
     ensures is { result ≡ mask_of (child_below (of_channel halves) limit) children }
     ensures bounded { result < 256 }
 {

@@ -1,7 +1,7 @@
 // The search: it recurses through octants, the depth left falling, and takes the closest child first.
 ghost use Rattle.std.specs.Prelude.{◌-◌, ◌≤◌, ◌<◌, ◌&&◌, ◌≡◌, ltb};
 ghost use Rattle.colour.specs.Octant.{Within};
-ghost use Rattle.colour.specs.Nearby.{closest_by};
+ghost use Rattle.colour.specs.Nearby.{closest_by, SmallGaps};
 ghost use Rattle.model.specs.Layout.{current};
 ghost use Rattle.words.specs.Rows.{octant_limit};
 ghost use Rattle.nearest.specs.Best.{closer};
@@ -38,6 +38,7 @@ fn enter(search: Search) -> Search
 // Whether child k, in a row, is entered: it is there, another octant may be entered, and it can hold something that comes before the best. How far it is
 // is worked out last: most octants have few children.
 fn reaches(search: Search, row: u32, limit: u32, gaps: Channels<Halves>, k: u32) -> bool
+    requires { SmallGaps gaps }
     ensures { result
         ≡ ((ltb 0 row && ltb row limit) && (ltb search.entered limit && closer search.best (closest_by gaps k) row)) }
 {

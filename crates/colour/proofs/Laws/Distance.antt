@@ -1,9 +1,13 @@
 -- d² (document 01, "Picks"): how it grows, and its bound.
-use Prim.Native.Nat.{ℕ, ◌+◌, ◌-◌, ◌*◌, ◌≤◌}
+use Prim.Native.Nat.{ℕ, suc, ◌+◌, ◌-◌, ◌*◌, ◌≤◌}
 use mathlib.Core.Bool.{true}
-use mathlib.Core.Path.{◌≡◌, refl, ap}
+use mathlib.Core.Path.{◌≡◌, refl, ap, ◌∙◌}
 use native.Mathlib.Nat.{add_comm, mul-le-mul}
 use native.Mathlib.Omega.{arith}
+use mir.Syntax.{w64}
+use mir.Val.{SFits, to_z, of_z}
+use lib.IntN.{ℤ, pos, negsuc, ◌-ℤ◌, ◌*ℤ◌, nat_abs, pos-*ℤ-pos, negsuc-*ℤ-negsuc}
+use Rattle.std.proofs.lemmas.Int.{ints, to_z-of_z}
 use Rattle.colour.specs.Channels.{Colour}
 use Rattle.colour.specs.Colour.{Channel, Red, Green, Blue, code_in, colour_by, sum_of, codes_fit, black, greatest_distance, apart, distance}
 use Rattle.colour.proofs.Laws.Channels.{sum_grows, sum_term, sum_same, fit_codes}
@@ -53,3 +57,36 @@ distance_bound a b fa fb = squares_most (gap Red, (gap Green, gap Blue))
 pub distance_reached : distance black (colour_by (λ h. 65535)) ≡ greatest_distance
 unfolding distance apart sum_of black colour_by code_in
 distance_reached = refl
+
+-- Codes are no farther apart than the last is from 0.
+pub apart_most : (x y : ℕ) → x ≤ 65535 → y ≤ 65535 → apart x y ≤ 65535
+unfolding apart
+apart_most x y hx hy = omega arith
+
+-- The square of a signed difference of codes is that of how far they are apart.
+difference_apart : (x y : ℕ) → nat_abs (pos x -ℤ pos y) ≡ apart x y
+unfolding apart
+difference_apart x y = omega (arith, ints)
+
+signed_square : (d : ℤ) → nat_abs d ≤ 65535 → nat_abs (to_z w64 (of_z w64 (d *ℤ d))) ≡ nat_abs d * nat_abs d
+signed_square (pos a) h =
+    rw (pos-*ℤ-pos a a, to_z-of_z w64 (pos (a * a)) (record { sfits = omega (arith, square_most h) })) refl
+signed_square (negsuc a) h =
+    rw (negsuc-*ℤ-negsuc a a, to_z-of_z w64 (pos (suc a * suc a)) (record { sfits = omega (arith, square_most h) })) refl
+
+-- As it is worked out: the difference is kept in 64 bits, and so is the square.
+read : ℤ → ℤ
+read z = to_z w64 (of_z w64 z)
+
+read_small : (d : ℤ) → nat_abs d ≤ 65535 → read d ≡ d
+unfolding read
+read_small (pos a) h = to_z-of_z w64 (pos a) (record { sfits = omega (arith, h) })
+read_small (negsuc a) h = to_z-of_z w64 (negsuc a) (record { sfits = omega (arith, h) })
+
+pub apart_squared : (x y : ℕ) → x ≤ 65535 → y ≤ 65535 → (d : ℤ) → d ≡ pos x -ℤ pos y
+    → nat_abs (to_z w64 (of_z w64 (to_z w64 (of_z w64 d) *ℤ to_z w64 (of_z w64 d)))) ≡ apart x y * apart x y
+unfolding read
+apart_squared x y hx hy d e =
+    let same : nat_abs d ≡ apart x y = ap nat_abs e ∙ difference_apart x y in
+    let small : nat_abs d ≤ 65535 = rw same (apart_most x y hx hy) in
+    rw (read_small d small, signed_square d small, same) refl

@@ -1,8 +1,10 @@
 -- The closest and the farthest code, by the tests that `closest_gap` and `farthest_gap` make.
-use Prim.Native.Nat.{ℕ, ◌≤◌, ◌<◌}
-use mathlib.Core.Path.{◌≡◌, ◌∙◌, ap, sym}
+use Prim.Native.Nat.{ℕ, ◌+◌, ◌-◌, ◌≤◌, ◌<◌, max}
+use mathlib.Core.Path.{◌≡◌, refl, ◌∙◌, ap}
 use mathlib.Core.Bool.{Bool, true, false}
-use borrow.Author.Tests.{le-leb, lt-leb}
+use native.Mathlib.Omega.{arith}
+use borrow.Author.Tests.{le-leb, lt-leb, leb-true, leb-false}
+use lib.Dec.{leb}
 use Rattle.colour.specs.Colour.{apart}
 use Rattle.colour.specs.Region.{closest_code, farthest_code}
 
@@ -31,12 +33,24 @@ module _ (low high x : ℕ) where
   unfolding closest_code choose
   closest_self h k = left _ _ (lt-leb _ _ h) ∙ left _ _ (lt-leb _ _ k)
 
-  -- The farther of the two ends.
-  module _ {down up : ℕ} (d : down ≡ apart x low) (u : up ≡ apart x high) where
-    pub farthest_high : down ≤ up → up ≡ apart x (farthest_code low high x)
-    unfolding farthest_code choose
-    farthest_high h = u ∙ ap (apart x) (sym (taken _ _ (le-leb _ _ (rw (d, u) at h))))
+  -- A code outside is as far as its end of the two: the other difference is 0, and both are for a code inside.
+  pub closest_apart : low ≤ high → apart x (closest_code low high x) ≡ (low - x) + (x - high)
+  unfolding apart
+  closest_apart l = below (leb x low) refl
+    where
+      above : (t : Bool) → leb high x ≡ t → low < x → (x - closest_code low high x) + (closest_code low high x - x) ≡ (low - x) + (x - high)
+      above true e h = rw (closest_high h (leb-true _ _ e)) (omega (arith, h, leb-true _ _ e))
+      above false e h = rw (closest_self h (leb-false _ _ e)) (omega (arith, h, leb-false _ _ e))
 
-    pub farthest_low : up < down → down ≡ apart x (farthest_code low high x)
-    unfolding farthest_code choose
-    farthest_low h = d ∙ ap (apart x) (sym (left _ _ (lt-leb _ _ (rw (d, u) at h))))
+      below : (t : Bool) → leb x low ≡ t → (x - closest_code low high x) + (closest_code low high x - x) ≡ (low - x) + (x - high)
+      below true e = rw (closest_low (leb-true _ _ e)) (omega (arith, l, leb-true _ _ e))
+      below false e = above (leb high x) refl (leb-false _ _ e)
+
+  -- The farther of the two ends.
+  pub farthest_apart : apart x (farthest_code low high x) ≡ max (apart x low) (apart x high)
+  unfolding farthest_code choose
+  farthest_apart = by (leb (apart x low) (apart x high)) refl
+    where
+      by : (t : Bool) → leb (apart x low) (apart x high) ≡ t → apart x (choose t high low) ≡ max (apart x low) (apart x high)
+      by true e = omega (arith, leb-true _ _ e)
+      by false e = omega (arith, leb-false _ _ e)

@@ -1,21 +1,12 @@
--- Each test picks the case of the closest code; the rest is sums and differences.
-use borrow.Author.Rules.{rules}
-use Rattle.colour.specs.Colour.{apart}
+-- One of the two differences is 0.
+use mathlib.Core.Path.{sym}
+use native.Mathlib.Omega.{arith}
 use Rattle.colour.specs.Octant.{last_code}
-use Rattle.colour.proofs.Laws.Gaps.{closest_low, closest_high, closest_self}
+use Rattle.colour.proofs.Laws.Gaps.{closest_apart}
 use Rattle.colour.proofs.overlap.closest_gap.Goals as goal
 
-pub returns-then-x-low : goal.returns-then-x-low
-unfolding apart last_code
-returns-then-x-low c =
-    rw (closest_low _ _ _ c.if-x-low.true) (search rules)
-
-pub returns-then-last-x : goal.returns-then-last-x
-unfolding apart
-returns-then-last-x c =
-    rw (← c.last_of-last.ensures, closest_high _ _ _ c.if-x-low.false c.if-last-x.true) (search rules)
-
-pub returns : goal.returns
-unfolding apart
-returns c =
-    rw (← c.last_of-last.ensures, closest_self _ _ _ c.if-x-low.false c.if-last-x.false) (search rules)
+pub returns-clause-is : goal.returns-clause-is
+unfolding last_code
+returns-clause-is c =
+    rw (c.saturating_sub.ensures, c.saturating_sub-2.ensures, c.last_of.ensures, c.from-x.ensures)
+    (sym (closest_apart _ _ _ (omega arith)))

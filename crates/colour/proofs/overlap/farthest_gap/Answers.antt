@@ -1,23 +1,18 @@
--- The test on the two differences picks the case of the farthest code.
-use mathlib.Core.Path.{ap, ◌∙◌}
+-- The greater of the two differences, which is one of codes.
+use mathlib.Core.Path.{sym}
 use native.Mathlib.Omega.{arith}
 use Rattle.colour.specs.Colour.{apart}
 use Rattle.colour.specs.Octant.{last_code}
-use Rattle.colour.proofs.Laws.Gaps.{farthest_high, farthest_low}
+use Rattle.colour.proofs.Laws.Gaps.{farthest_apart}
 use Rattle.colour.proofs.overlap.farthest_gap.Goals as goal
 
-pub returns-then-down-up : goal.returns-then-down-up
+pub returns-clause-is : goal.returns-clause-is
 unfolding apart
-returns-then-down-up c =
-    farthest_high _ _ _ c.abs_diff-down.ensures (c.abs_diff-up.ensures ∙ ap (apart c.args.x) c.last_of.ensures) c.if-down-up.true
+returns-clause-is c =
+    rw (c.max.ensures, c.abs_diff.ensures, c.abs_diff-2.ensures, c.last_of.ensures, c.from-x.ensures)
+    (sym (farthest_apart _ _ _))
 
-pub returns-else-down-up : goal.returns-else-down-up
-unfolding apart
-returns-else-down-up c =
-    farthest_low _ _ _ c.abs_diff-down.ensures (c.abs_diff-up.ensures ∙ ap (apart c.args.x) c.last_of.ensures) c.if-down-up.false
-
--- It is a code.
-pub overflow_cast-result : goal.overflow_cast-result
+pub returns-clause-bounded : goal.returns-clause-bounded
 unfolding last_code
-overflow_cast-result c =
-    omega (arith, c.abs_diff-up.ensures, c.last_of.ensures, c.requires.0, c.requires.1.0, c.requires.1.1)
+returns-clause-bounded c =
+    omega (arith, c.max.ensures, c.abs_diff.ensures, c.abs_diff-2.ensures, c.last_of.ensures, c.from-x.ensures, c.requires)
