@@ -6,7 +6,7 @@ ghost use Rattle.model.specs.Layout.{Tag, Code, Next, First, Count, Child, curre
 ghost use Rattle.model.specs.Layout.{sample_header, octant_header, sample_rows, octant_rows, octant_width};
 ghost use Rattle.model.specs.Tables.{header_words};
 ghost use Rattle.words.specs.Rows.{sample_start, octant_start, sample_at, sample_field, octant_field, settings_in, count_in};
-ghost use Rattle.words.specs.Rows.{octant_limit, sample_budget, sample_in, with_sample, octant_row_by};
+ghost use Rattle.words.specs.Rows.{sample_in, with_sample, octant_row_by};
 
 use colour::{Channels, Colour, Sample, Settings};
 
@@ -114,21 +114,13 @@ pub fn settings(samples: &[u32]) -> Settings
     }
 }
 
-// The rows below which an octant may be entered, whatever the words are.
-pub fn octant_limit(octants: &[u32]) -> u32
-    requires { octant_header current ≤ length octants.now }
-    ensures { result ≡ octant_limit current octants.now }
+// Where sample row i of a table that has it starts. It is there whole.
+fn sample_row(samples: &[u32], i: usize) -> usize
+    requires { i < sample_rows current (length samples.now) }
+    ensures is { result ≡ sample_start current i }
+    ensures whole { result + 5 ≤ length samples.now }
 {
-    (count(octants) as usize).min(octant_rows(octants.len())) as u32
-}
-
-// The samples that are there to be read, whatever the words are.
-pub fn sample_budget(samples: &[u32]) -> u32
-    requires { sample_header current ≤ length samples.now }
-    ensures is { result ≡ sample_budget current samples.now }
-    ensures bounded { result ≤ 4096 }
-{
-    (count(samples) as usize).min(sample_rows(samples.len())) as u32
+    sample_start(i)
 }
 
 // The tag in row i. (That there is such a row is asked, here and below: it is the bound of an index.)
@@ -136,7 +128,7 @@ pub fn tag(samples: &[u32], i: usize) -> u32
     requires { i < sample_rows current (length samples.now) }
     ensures { result ≡ sample_field current samples.now i Tag }
 {
-    let at = sample_start(i);
+    let at = sample_row(samples, i);
     samples[at]
 }
 
@@ -145,7 +137,7 @@ pub fn colour(samples: &[u32], i: usize) -> Colour
     requires { i < sample_rows current (length samples.now) }
     ensures { result ≡ colour_by (λ h. sample_field current samples.now i (Code h)) }
 {
-    let at = sample_start(i);
+    let at = sample_row(samples, i);
     Channels {
         red: samples[at + RED],
         green: samples[at + GREEN],
@@ -170,7 +162,7 @@ pub fn put_sample(samples: &mut [u32], i: usize, s: Sample)
     requires { i < sample_rows current (length samples.old) }
     ensures { samples.new ≡ with_sample current samples.old i s }
 {
-    let at = sample_start(i);
+    let at = sample_row(samples, i);
     samples[at] = s.tag;
     samples[at + RED] = s.colour.red;
     samples[at + GREEN] = s.colour.green;
@@ -182,7 +174,7 @@ pub fn next(samples: &[u32], i: usize) -> u32
     requires { i < sample_rows current (length samples.now) }
     ensures { result ≡ sample_field current samples.now i Next }
 {
-    let at = sample_start(i);
+    let at = sample_row(samples, i);
     samples[at + NEXT]
 }
 
@@ -191,7 +183,7 @@ pub fn put_next(samples: &mut [u32], i: usize, next: u32)
     requires { i < sample_rows current (length samples.old) }
     ensures { samples.new ≡ set samples.old (sample_at current Next i) next }
 {
-    let at = sample_start(i);
+    let at = sample_row(samples, i);
     samples[at + NEXT] = next;
 }
 
@@ -213,12 +205,21 @@ pub fn put_count(octants: &mut [u32], count: u32)
     octants[0] = count;
 }
 
+// Where an octant row of a table that has it starts. It is there whole.
+fn octant_row(octants: &[u32], row: u32) -> usize
+    requires { row < octant_rows current (length octants.now) }
+    ensures is { result ≡ octant_start current row }
+    ensures whole { result + 11 ≤ length octants.now }
+{
+    octant_start(row)
+}
+
 // The first sample row of octant row `row`.
 pub fn octant_first(octants: &[u32], row: u32) -> u32
     requires { row < octant_rows current (length octants.now) }
     ensures { result ≡ octant_field current octants.now row First }
 {
-    let at = octant_start(row);
+    let at = octant_row(octants, row);
     octants[at]
 }
 
@@ -227,7 +228,7 @@ pub fn octant_count(octants: &[u32], row: u32) -> u32
     requires { row < octant_rows current (length octants.now) }
     ensures { result ≡ octant_field current octants.now row Count }
 {
-    let at = octant_start(row);
+    let at = octant_row(octants, row);
     octants[at + COUNT]
 }
 
@@ -236,7 +237,7 @@ pub fn octant_child(octants: &[u32], row: u32, k: u32) -> u32
     requires { (row < octant_rows current (length octants.now)) × (k < 8) }
     ensures { result ≡ octant_field current octants.now row (Child k) }
 {
-    let at = octant_start(row);
+    let at = octant_row(octants, row);
     octants[at + (CHILD + (k as usize))]
 }
 
