@@ -44,6 +44,7 @@ const CHILD: usize = 3;
 pub const MOST_SAMPLES: usize = 4096;
 
 // Whether both tables have their headers.
+#[tactic(auto, using(model::proofs::Tables::Numbers::current_numbers))]
 pub fn long_enough(samples: usize, octants: usize) -> bool
     ensures { result ≡ (leb (sample_header current) samples && leb (octant_header current) octants) }
 {
@@ -51,6 +52,7 @@ pub fn long_enough(samples: usize, octants: usize) -> bool
 }
 
 // Whether settings are ones that a clear may set: question 3.
+#[tactic(auto, unfolding(model::specs::SampleSet::settings_good))]
 pub fn settings_fit(settings: Settings) -> bool
     ensures { result ≡ settings_good settings }
 {
@@ -59,6 +61,7 @@ pub fn settings_fit(settings: Settings) -> bool
 }
 
 // The sample rows of a table of that length.
+#[tactic(auto, using(model::proofs::Tables::Numbers::current_numbers))]
 pub fn sample_rows(length: usize) -> usize
     ensures is { result ≡ sample_rows current length }
     ensures bounded { result ≤ 4096 }
@@ -67,6 +70,7 @@ pub fn sample_rows(length: usize) -> usize
 }
 
 // The octant rows of a table of that length.
+#[tactic(auto, using(model::proofs::Tables::Numbers::current_numbers))]
 pub fn octant_rows(length: usize) -> usize
     ensures { result ≡ octant_rows current length }
 {
@@ -74,6 +78,7 @@ pub fn octant_rows(length: usize) -> usize
 }
 
 // Where sample row i starts.
+#[tactic(auto, using(model::proofs::Tables::Numbers::current_numbers, crate::proofs::Laws::Layout::Places::sample_start_lem))]
 pub fn sample_start(i: usize) -> usize
     requires { i ≤ 4096 }
     ensures { result ≡ sample_start current i }
@@ -82,6 +87,7 @@ pub fn sample_start(i: usize) -> usize
 }
 
 // The words of n octant rows.
+#[tactic(auto, using(model::proofs::Tables::Numbers::current_numbers))]
 pub fn octant_words(n: u32) -> usize
     ensures is { result ≡ octant_width current * n }
     ensures bounded { result < 2 ^ 36 }
@@ -90,6 +96,7 @@ pub fn octant_words(n: u32) -> usize
 }
 
 // Where octant row i starts.
+#[tactic(auto, using(model::proofs::Tables::Numbers::current_numbers, crate::proofs::Laws::Layout::Places::octant_start_lem))]
 pub fn octant_start(i: u32) -> usize
     ensures { result ≡ octant_start current i }
 {
@@ -97,6 +104,7 @@ pub fn octant_start(i: u32) -> usize
 }
 
 // The sample count that a sample table says, or the octant count of an octant table.
+#[tactic(auto, unfolding(crate::specs::Rows::count_in))]
 pub fn count(table: &[u32]) -> u32
     requires { 1 ≤ length table.now }
     ensures { result ≡ count_in table.now }
@@ -105,6 +113,7 @@ pub fn count(table: &[u32]) -> u32
 }
 
 // The settings that a sample table says.
+#[tactic(auto, using(crate::proofs::Laws::Layout::Places::settings_in_lem), unfolding(model::specs::Layout::sample_header, model::specs::Layout::current))]
 pub fn settings(samples: &[u32]) -> Settings
     requires { sample_header current ≤ length samples.now }
     ensures { result ≡ settings_in current samples.now }
@@ -124,6 +133,7 @@ fn sample_row(samples: &[u32], i: usize) -> usize
 }
 
 // The tag in row i. (That there is such a row is asked, here and below: it is the bound of an index.)
+#[tactic(auto, using(crate::proofs::Laws::Layout::Places::tag_in))]
 pub fn tag(samples: &[u32], i: usize) -> u32
     requires { i < sample_rows current (length samples.now) }
     ensures { result ≡ sample_field current samples.now i Tag }
@@ -146,6 +156,7 @@ pub fn colour(samples: &[u32], i: usize) -> Colour
 }
 
 // The sample in row i.
+#[tactic(auto, unfolding(crate::specs::Rows::sample_in))]
 pub fn sample(samples: &[u32], i: usize) -> Sample
     requires { i < sample_rows current (length samples.now) }
     ensures { result ≡ sample_in current samples.now i }
@@ -158,6 +169,7 @@ pub fn sample(samples: &[u32], i: usize) -> Sample
 }
 
 // Puts a sample in row i; the next word stays.
+#[tactic(auto, using(crate::proofs::Laws::Layout::Put::put_at_lem))]
 pub fn put_sample(samples: &mut [u32], i: usize, s: Sample)
     requires { i < sample_rows current (length samples.old) }
     ensures { samples.new ≡ with_sample current samples.old i s }
@@ -170,6 +182,7 @@ pub fn put_sample(samples: &mut [u32], i: usize, s: Sample)
 }
 
 // The next word of row i.
+#[tactic(auto, unfolding(crate::proofs::Laws::Layout::Places::field_place), using(crate::proofs::Laws::Layout::Places::field_in))]
 pub fn next(samples: &[u32], i: usize) -> u32
     requires { i < sample_rows current (length samples.now) }
     ensures { result ≡ sample_field current samples.now i Next }
@@ -179,6 +192,7 @@ pub fn next(samples: &[u32], i: usize) -> u32
 }
 
 // Sets the next word of row i.
+#[tactic(auto, unfolding(crate::proofs::Laws::Layout::Places::field_place), using(crate::proofs::Laws::Layout::Places::sample_start_lem, crate::proofs::Laws::Layout::Places::sample_at_lem))]
 pub fn put_next(samples: &mut [u32], i: usize, next: u32)
     requires { i < sample_rows current (length samples.old) }
     ensures { samples.new ≡ set samples.old (sample_at current Next i) next }
@@ -188,6 +202,7 @@ pub fn put_next(samples: &mut [u32], i: usize, next: u32)
 }
 
 // Sets the words before the first sample row: the count and the settings.
+#[tactic(auto, unfolding(model::specs::Layout::sample_header, model::specs::Layout::current))]
 pub fn put_header(samples: &mut [u32], count: u32, settings: Settings)
     requires { sample_header current ≤ length samples.old }
     ensures { samples.new ≡ header_words current count settings
@@ -206,6 +221,7 @@ pub fn put_count(octants: &mut [u32], count: u32)
 }
 
 // Where an octant row of a table that has it starts. It is there whole.
+#[tactic(auto, using(crate::proofs::Laws::Layout::Places::octant_room))]
 fn octant_row(octants: &[u32], row: u32) -> usize
     requires { row < octant_rows current (length octants.now) }
     ensures is { result ≡ octant_start current row }
@@ -215,6 +231,7 @@ fn octant_row(octants: &[u32], row: u32) -> usize
 }
 
 // The first sample row of octant row `row`.
+#[tactic(auto, using(crate::proofs::Laws::Layout::Places::first_in))]
 pub fn octant_first(octants: &[u32], row: u32) -> u32
     requires { row < octant_rows current (length octants.now) }
     ensures { result ≡ octant_field current octants.now row First }
@@ -224,6 +241,7 @@ pub fn octant_first(octants: &[u32], row: u32) -> u32
 }
 
 // Its sample count.
+#[tactic(auto, unfolding(crate::proofs::Laws::Layout::Places::octant_place), using(crate::proofs::Laws::Layout::Places::octant_in))]
 pub fn octant_count(octants: &[u32], row: u32) -> u32
     requires { row < octant_rows current (length octants.now) }
     ensures { result ≡ octant_field current octants.now row Count }
@@ -265,6 +283,7 @@ impl Octant {
 }
 
 // Writes an octant's row at the front of the rows lent.
+#[tactic(auto, using(model::proofs::Tables::Numbers::current_numbers))]
 pub fn put_octant(rows: &mut [u32], octant: &Octant)
     requires { octant_width current ≤ length rows.old }
     ensures { rows.new ≡ octant_row_by current octant.now.first octant.now.last octant.now.count octant.now.children
@@ -274,6 +293,7 @@ pub fn put_octant(rows: &mut [u32], octant: &Octant)
 }
 
 // Whether the row at the front of the rows lent is that octant's.
+#[tactic(auto, using(model::proofs::Tables::Numbers::current_numbers, crate::proofs::Laws::Layout::Octants::octant_same))]
 pub fn octant_is(rows: &[u32], octant: &Octant) -> bool
     requires { octant_width current ≤ length rows.now }
     ensures { (result ≡ true) ↔ (take (octant_width current) rows.now

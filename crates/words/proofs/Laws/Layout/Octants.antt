@@ -7,8 +7,8 @@ use mathlib.Core.Path.{◌≡◌, refl, sym, ap, ◌∙◌}
 use native.Mathlib.Omega.{arith}
 use lib.Dec.{eqb}
 use lib.Pointwise.{bytes_decides}
-use lib.ListN.{length, get_or, take, drop, length-map, length-drop}
-use lib.Seq.{take_all, take-add, length-take-le}
+use lib.ListN.{length, get_or, take, drop, length-map}
+use lib.Seq.{take_all, take-add}
 use Rattle.std.specs.List.{starts_with}
 use Rattle.model.specs.Layout.{current, octant_width}
 use Rattle.model.proofs.Tables.Numbers.{current_numbers}
