@@ -4,6 +4,9 @@ ghost use Rattle.colour.specs.Octant.{side_at, root_cube, child_cube, Within};
 
 use crate::{Channels, Cube};
 
+// The depth of an octant of side 1: so many depths lie below the root.
+pub const DEPTHS: u32 = 16;
+
 // The sides at depths 0 to 16.
 const SIDES: [u32; 17] = [
     65536, 32768, 16384, 8192, 4096, 2048, 1024, 512, 256, 128, 64, 32, 16, 8, 4, 2, 1,

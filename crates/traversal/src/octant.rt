@@ -5,11 +5,9 @@ ghost use Rattle.words.specs.Rows.{settings_in, octant_field, sample_budget};
 ghost use Rattle.traversal.specs.Own.{own_most, ends_at};
 ghost use Rattle.traversal.specs.Children.{child_at};
 
+use colour::octant::DEPTHS;
 use words::layout::{octant_child, octant_count, settings as settings_of};
 use words::tables::Tables;
-
-// The depth of an octant of side 1.
-const DEPTHS: u32 = 16;
 
 // As many samples as the octant in a row counts, and as may still be visited.
 pub fn most(tables: &Tables<'_>, row: u32, visited: u32) -> u32
