@@ -1,6 +1,5 @@
 -- What the proofs of nearest by path cite.
 pub mod Closer
-pub mod Tests
 pub mod Measuring
 pub mod Starting
 pub mod Least

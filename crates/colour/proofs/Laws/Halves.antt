@@ -101,11 +101,7 @@ pub noes_most : (b : Bool) → bool_byte (not b) ≤ 1
 noes_most true = omega arith
 noes_most false = omega arith
 
--- A bit by a test that is known.
-pub bit_yes : {t : Bool} (w : ℕ) → t ≡ true → w ≡ bit_if t w
-unfolding bit_if
-bit_yes w e = sym (ap (λ (t : Bool). bit_if t w) e)
-
+-- No bit, by a test that is known.
 pub bit_no : {t : Bool} (w : ℕ) → t ≡ false → 0 ≡ bit_if t w
 unfolding bit_if
 bit_no w e = sym (ap (λ (t : Bool). bit_if t w) e)

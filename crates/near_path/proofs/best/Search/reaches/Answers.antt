@@ -2,7 +2,7 @@
 use mathlib.Core.Path.{◌∙◌}
 use lib.Dec.{ltb}
 use Rattle.traversal.specs.Search.{reaches}
-use Rattle.near_path.proofs.Laws.Tests.{all_first, not_first}
+use Rattle.traversal.proofs.Laws.Tests.{all_first, not_first}
 use Rattle.near_path.proofs.best.Search.reaches.Goals as goal
 
 pub returns-then-octant-limit : goal.returns-then-octant-limit

@@ -1,4 +1,4 @@
--- The tests of a search.
+-- The tests by which a search enters an octant.
 use mathlib.Core.Bool.{Bool, true, false, ◌&&◌, true≢false}
 use mathlib.Core.Path.{◌≡◌, refl, sym}
 
