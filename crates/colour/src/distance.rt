@@ -20,20 +20,12 @@ pub(crate) fn code_square(x: u16) -> u32
     square(u32::from(x)) as u32
 }
 
-// What three channels come to, in 64 bits.
-pub(crate) fn sum_of(red: u32, green: u32, blue: u32) -> u64
-    ensures { result ≡ red + green + blue }
-{
-    u64::from(red) + u64::from(green) + u64::from(blue)
-}
-
 // The sum of the squares of three differences of codes.
 pub fn squares(gaps: Channels<u16>) -> u64
     ensures is { result ≡ gaps.red * gaps.red + gaps.green * gaps.green + gaps.blue * gaps.blue }
     ensures bounded { result ≤ greatest_distance }
 {
-    let Channels { red, green, blue } = gaps.map(code_square);
-    sum_of(red, green, blue)
+    gaps.map(code_square).sum()
 }
 
 // d² of two colours.

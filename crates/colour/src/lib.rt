@@ -11,7 +11,7 @@ pub mod overlap;
 pub mod panel;
 pub mod refusal;
 
-ghost use Rattle.std.specs.Prelude.{◌≡◌, ◌&&◌};
+ghost use Rattle.std.specs.Prelude.{◌≡◌, ◌+◌, ◌^◌, ◌<◌, ◌&&◌};
 ghost use Rattle.colour.specs.Channels.{Tried};
 ghost use Rattle.colour.specs.Colour.{wrapped, InRange};
 
@@ -82,6 +82,25 @@ impl Channels<bool> {
         ensures { result ≡ self.red && self.green && self.blue }
     {
         self.red & self.green & self.blue
+    }
+}
+
+impl Channels<u32> {
+    // What the three come to, in 64 bits.
+    pub fn sum(self) -> u64
+        ensures { result ≡ self.red + self.green + self.blue }
+    {
+        u64::from(self.red) + u64::from(self.green) + u64::from(self.blue)
+    }
+}
+
+impl Channels<u64> {
+    // What the three come to.
+    pub fn sum(self) -> u64
+        requires { self.red + self.green + self.blue < 2 ^ 64 }
+        ensures { result ≡ self.red + self.green + self.blue }
+    {
+        self.red + self.green + self.blue
     }
 }
 

@@ -4,7 +4,6 @@ ghost use Rattle.colour.specs.Mask.{bit_if};
 ghost use Rattle.colour.specs.Steps.{half_at, Small};
 ghost use Rattle.colour.specs.Nearby.{closest_child, gaps_of, closest_by, SmallGaps};
 
-use crate::distance::sum_of;
 use crate::mask::bit_if;
 use crate::octant::Parent;
 use crate::overlap::{Halves, closest_squares};
@@ -34,11 +33,12 @@ fn half_at(v: Halves, bit: u32) -> u32
 pub fn closest_by(gaps: Channels<Halves>, k: u32) -> u64
     ensures { result ≡ closest_by gaps k }
 {
-    sum_of(
-        half_at(gaps.red, k % 2),
-        half_at(gaps.green, k / 2 % 2),
-        half_at(gaps.blue, k / 4 % 2),
-    )
+    Channels {
+        red: half_at(gaps.red, k % 2),
+        green: half_at(gaps.green, k / 2 % 2),
+        blue: half_at(gaps.blue, k / 4 % 2),
+    }
+    .sum()
 }
 
 // The weight if a code is in the upper half, or past it.

@@ -7,7 +7,7 @@ ghost use Rattle.colour.specs.Region.{closest_code, farthest_code, closest, fart
 ghost use Rattle.colour.specs.Mask.{bit_if, mask_of, overlap_mask};
 ghost use Rattle.colour.specs.Steps.{closest_square, missed, halves_of, of_channel, child_below, Small};
 
-use crate::distance::{code_square, square, squared, squares, sum_of};
+use crate::distance::{code_square, square, squared, squares};
 use crate::mask::bit_if;
 use crate::nearby::gaps_of;
 use crate::octant::Parent;
@@ -224,7 +224,7 @@ fn bit(red: u32, green: u32, blue: u32, limit: u64, weight: u32) -> u32
     ensures is { result ≡ bit_if (ltb (red + green + blue) limit) weight }
     ensures bounded { result ≤ weight }
 {
-    bit_if(sum_of(red, green, blue) < limit, weight)
+    bit_if(Channels { red, green, blue }.sum() < limit, weight)
 }
 
 // The children whose halves add up to less than a limit. The eight sums share the six numbers, and nothing branches.

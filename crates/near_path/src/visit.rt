@@ -13,7 +13,7 @@ use crate::leaf::own;
 use colour::Probe;
 use colour::distance::square;
 use traversal::children::children_in;
-use traversal::nearby::{far_of, sum_by, turns};
+use traversal::nearby::{far_of, turns};
 use traversal::octant::{child_at, ends};
 use traversal::spot::{Fork, Spot, closest_spot, fork_of, parent_at, root_spot, sibling_spot};
 use words::layout::{sample_rows, tag as tag_of};
@@ -33,7 +33,7 @@ fn siblings(tables: &Tables<'_>, p: Probe, row: u32, spot: Spot, fork: Fork, sea
     for turn in children_in(turns(search.distance, spot.near, far)) {
         let next = child_at(tables.octants, row, fork.first ^ turn);
         let to = sibling_spot(p, spot, fork, far, turn);
-        if search.reaches(next, limit, sum_by(to.near)) {
+        if search.reaches(next, limit, to.near.sum()) {
             visit(tables, p, next, to, search);
         }
     }
@@ -52,7 +52,7 @@ fn split(tables: &Tables<'_>, p: Probe, row: u32, spot: Spot, search: &mut Searc
     let fork = fork_of(p, spot.cube);
     let next = child_at(tables.octants, row, fork.first);
     let to = closest_spot(p, spot, fork);
-    if search.reaches(next, tables.octant_limit(), sum_by(to.near)) {
+    if search.reaches(next, tables.octant_limit(), to.near.sum()) {
         visit(tables, p, next, to, search);
     }
     siblings(tables, p, row, spot, fork, search);

@@ -2,7 +2,7 @@
 // far as the whole octant, and the other, the far half, lies across the middle. So the eight children share six squares, and three are the octant's own.
 ghost use Rattle.std.specs.Prelude.{suc, ◌+◌, ◌<◌, ◌≤◌, ◌≡◌, leb};
 ghost use Rattle.colour.specs.Mask.{bit_if};
-ghost use Rattle.traversal.specs.Nearby.{sum_by, far_square, far_of, by_bit, turned_by, turn_mask, NearFar, SmallSquares};
+ghost use Rattle.traversal.specs.Nearby.{far_square, far_of, by_bit, turned_by, turn_mask, NearFar};
 
 use colour::distance::square;
 use colour::mask::bit_if;
@@ -11,14 +11,6 @@ use colour::{Channels, Probe};
 
 // What each channel adds to a d².
 pub type Squares = Channels<u64>;
-
-// Their sum.
-pub fn sum_by(v: Squares) -> u64
-    requires { SmallSquares v }
-    ensures { result ≡ sum_by v }
-{
-    v.red + v.green + v.blue
-}
 
 // The square of how far a code is from the far half.
 fn far_square(x: u16, middle: u32) -> u64
@@ -96,7 +88,7 @@ pub fn turns(most: u64, near: Squares, far: Squares) -> u32
     let rise = (far.red - near.red)
         .min(far.green - near.green)
         .min(far.blue - near.blue);
-    if most < near.red + near.green + near.blue + rise {
+    if most < near.sum() + rise {
         return 0;
     }
     turns_within(most, near, far)

@@ -1,6 +1,6 @@
 -- The closest d² of an octant's children, by what its own channels and its far halves add: the half that a code is in, or closer to, is as far as the
 -- whole stretch, and the other half starts past the middle.
-use Prim.Native.Nat.{ℕ, zero, suc, ◌+◌, ◌-◌, ◌*◌, ◌/◌, ◌%◌, ◌≤◌, ◌<◌}
+use Prim.Native.Nat.{ℕ, zero, suc, ◌+◌, ◌-◌, ◌*◌, ◌/◌, ◌%◌, ◌^◌, ◌≤◌, ◌<◌}
 use mathlib.Core.Bool.{Bool, true, false}
 use mathlib.Core.Path.{◌≡◌, refl, sym, ap, ap₂, ◌∙◌}
 use native.Mathlib.Nat.{zero-add, div-one}
@@ -185,6 +185,14 @@ child_near p s low m some =
     ∙ ap (λ (n : ℕ). code_in h low + n * s) (xor_bit first m h ∙ ap (λ (n : ℕ). differ n bit) (first_bit c s low h)))
     ∙ half_picked (code_in h c) s (code_in h low) bit some (omega arith)
     ∙ sym (ap₂ (by_bit bit) (square_by (λ g. closest_square (code_in g c) (s + s) (code_in g low)) h) (square_by (λ g. far_square (code_in g c) (code_in g low + s)) h)))
+
+-- The three add up to their sum.
+pub sum_is : (v : Squares) → v.red + v.green + v.blue ≡ sum_by v
+unfolding sum_by sum_of square_in
+sum_is v = refl
+
+pub sum_fits : {v : Squares} → SmallSquares v → v.red + v.green + v.blue < 2 ^ 64
+sum_fits s = omega arith
 
 -- d² to an octant's closest colour is their sum.
 pub near_sum : (p : Probe) (s : ℕ) (low : Colour) → sum_by (near_of p s low) ≡ distance p.centre (closest p.centre s low)
