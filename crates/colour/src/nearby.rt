@@ -1,10 +1,10 @@
 // How far the children of an octant are from a colour. The eight distances share six squares.
 ghost use Rattle.std.specs.Prelude.{◌+◌, ◌<◌, ◌≤◌, ◌≡◌, leb};
 ghost use Rattle.colour.specs.Mask.{bit_if};
-ghost use Rattle.colour.specs.Steps.{half_at, Small};
+ghost use Rattle.colour.specs.Steps.{Small};
 ghost use Rattle.colour.specs.Nearby.{closest_child, gaps_of, closest_by, SmallGaps};
 
-use crate::mask::bit_if;
+use crate::mask::{bit_if, by_bit};
 use crate::octant::Parent;
 use crate::overlap::{Halves, closest_squares};
 use crate::{Channels, Codes};
@@ -20,23 +20,15 @@ pub fn gaps_of(c: Codes, parent: Parent) -> Channels<Halves>
     c.zip(low).map(|(x, from)| closest_squares(x, from, half))
 }
 
-// The half of a bit: 1 is the upper one.
-#[tactic(auto, unfolding(crate::specs::Steps::half_at))]
-fn half_at(v: Halves, bit: u32) -> u32
-    ensures { result ≡ half_at v bit }
-{
-    if bit == 0 { v.lower } else { v.upper }
-}
-
-// d² to the closest colour of child k.
-#[tactic(auto, unfolding(crate::specs::Nearby::closest_by, crate::specs::Steps::child_sum, crate::specs::Colour::sum_of, crate::specs::Steps::of_channel, crate::specs::Octant::bit_weight))]
+// d² to the closest colour of child k, whose bits say which half of each channel it is in: 1 is the upper one.
+#[tactic(auto, using(crate::proofs::Laws::Halves::half_by), unfolding(crate::specs::Nearby::closest_by, crate::specs::Steps::child_sum, crate::specs::Colour::sum_of, crate::specs::Steps::of_channel, crate::specs::Octant::bit_weight))]
 pub fn closest_by(gaps: Channels<Halves>, k: u32) -> u64
     ensures { result ≡ closest_by gaps k }
 {
     Channels {
-        red: half_at(gaps.red, k % 2),
-        green: half_at(gaps.green, k / 2 % 2),
-        blue: half_at(gaps.blue, k / 4 % 2),
+        red: by_bit(k % 2, gaps.red.lower, gaps.red.upper),
+        green: by_bit(k / 2 % 2, gaps.green.lower, gaps.green.upper),
+        blue: by_bit(k / 4 % 2, gaps.blue.lower, gaps.blue.upper),
     }
     .sum()
 }

@@ -2,10 +2,10 @@
 // far as the whole octant, and the other, the far half, lies across the middle. So the eight children share six squares, and three are the octant's own.
 ghost use Rattle.std.specs.Prelude.{suc, ◌+◌, ◌<◌, ◌≤◌, ◌≡◌, leb};
 ghost use Rattle.colour.specs.Mask.{bit_if};
-ghost use Rattle.traversal.specs.Nearby.{far_square, far_of, by_bit, turned_by, turn_mask, NearFar};
+ghost use Rattle.traversal.specs.Nearby.{far_square, far_of, turned_by, turn_mask, NearFar};
 
 use colour::distance::square;
-use colour::mask::bit_if;
+use colour::mask::{bit_if, by_bit};
 use colour::octant::Parent;
 use colour::{Channels, Probe};
 
@@ -37,13 +37,6 @@ pub fn far_of(p: Probe, parent: Parent) -> Squares
         green: far_square(p.centre.green, low.green + half),
         blue: far_square(p.centre.blue, low.blue + half),
     }
-}
-
-// The first if a bit is 0, else the second.
-fn by_bit(bit: u32, near: u64, far: u64) -> u64
-    ensures { result ≡ by_bit bit near far }
-{
-    if bit == 0 { near } else { far }
 }
 
 // At turn m: the far half in the channels of the bits of m.

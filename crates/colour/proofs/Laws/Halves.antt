@@ -14,7 +14,7 @@ use Rattle.colour.specs.declared.overlap.Halves.{Halves}
 use Rattle.colour.specs.Colour.{Channel, Red, Green, Blue, code_in, each, sum_of, apart, distance}
 use Rattle.colour.specs.Octant.{bit_weight, children, child_low}
 use Rattle.colour.specs.Region.{closest, overlaps}
-use Rattle.colour.specs.Mask.{bit_if, mask_of, overlap_mask}
+use Rattle.colour.specs.Mask.{bit_if, by_bit, mask_of, overlap_mask}
 use Rattle.colour.specs.Steps.{closest_square, noes, missed, share, limit_of, halves_of, half_at, of_channel, child_sum, child_below}
 use Rattle.colour.proofs.Laws.Channels.{sum_same, code_by}
 use Rattle.colour.proofs.Laws.Octants.{child_code}
@@ -45,6 +45,12 @@ pub overlaps_shares : (R : Region) (s : ℕ) (low : Colour) → overlaps R s low
 unfolding overlaps share limit_of missed
 overlaps_shares (Ball c r) s low = ap (λ (n : ℕ). ltb n (r * r)) (closest_shares c s low)
 overlaps_shares (Box a b) s low = each_noes _
+
+-- The half of a bit is picked by it.
+pub half_by : (v : Halves) (bit : ℕ) → by_bit bit v.lower v.upper ≡ half_at v bit
+unfolding half_at by_bit
+half_by v zero = refl
+half_by v (suc b) = refl
 
 -- The half of a bit starts at low, or s above it.
 half_at_lem : (f : ℕ → ℕ → ℕ) (s low n : ℕ) → half_at (halves_of f s low) (n % 2) ≡ f s (low + n % 2 * s)
