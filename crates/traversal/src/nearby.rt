@@ -32,11 +32,9 @@ pub fn far_of(p: Probe, parent: Parent) -> Squares
 {
     let low = parent.cube.low;
     let half = parent.half;
-    Squares {
-        red: far_square(p.centre.red, low.red + half),
-        green: far_square(p.centre.green, low.green + half),
-        blue: far_square(p.centre.blue, low.blue + half),
-    }
+    p.centre
+        .zip(low)
+        .map(|(x, from)| far_square(x, from + half))
 }
 
 // At turn m: the far half in the channels of the bits of m.
