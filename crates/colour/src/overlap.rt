@@ -47,7 +47,8 @@ fn farthest_gap(x: u32, low: u32, side: u32) -> u16
     if down <= up { up as u16 } else { down as u16 }
 }
 
-// d² from a colour to an octant's closest colour.
+// d² from a colour to an octant's closest colour. (Not one function over the gap with the next: its contract would have to say of each channel what the
+// gap's does, and be longer than both.)
 #[tactic(auto, using(crate::proofs::Laws::Cubes::cube_room), unfolding(crate::specs::Colour::distance, crate::specs::Colour::sum_of, crate::specs::Region::closest, crate::specs::Colour::colour_by, crate::specs::Colour::code_in))]
 pub fn closest_distance(c: Codes, cube: Cube) -> u64
     requires { Within cube }
@@ -97,6 +98,7 @@ fn all_between(low: u32, high: u32, from: u32, side: u32) -> bool
     (low <= from) & (last_of(from, side) <= high)
 }
 
+// A box's two colours are passed as `Region::Box` has them, which definitions name: in a struct of both they would be taken apart by `zip` at once.
 #[tactic(auto, unfolding(crate::specs::Region::holds, crate::specs::Colour::each, crate::specs::Colour::code_in))]
 fn box_holds(low: Colour, high: Colour, c: Codes) -> bool
     ensures { result ≡ holds (Region.Box low high) c }

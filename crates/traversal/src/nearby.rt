@@ -48,7 +48,8 @@ pub fn turned(near: Squares, far: Squares, m: u32) -> Squares
     }
 }
 
-// The weight if three squares add up to no more than the most, else 0.
+// The weight if three squares add up to no more than the most, else 0. (Not one with the bits of `colour::overlap`: a limit one past the most may not fit
+// 64 bits, nor these squares 32, and of eight children one is left out; a shared mask would be lent the sum, the test and the first child.)
 fn within(red: u64, green: u64, blue: u64, most: u64, weight: u32) -> u32
     requires { (red ≤ 4294967296) × ((green ≤ 4294967296) × (blue ≤ 4294967296)) }
     ensures is { result ≡ bit_if (leb (red + green + blue) most) weight }
