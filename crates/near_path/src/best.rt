@@ -18,8 +18,8 @@ pub struct Best {
 #[derive(Clone, Copy)]
 pub struct Search {
     pub distance: u64,
-    pub octant: u32,
-    pub row: u32,
+    pub octant: u64,
+    pub row: u64,
     pub entered: u64,
     pub visited: u64,
 }
@@ -44,7 +44,7 @@ impl Search {
         ensures { result ≡ closer (search_in self.now).kept distance octant }
     {
         if distance == self.distance {
-            return octant < self.octant;
+            return u64::from(octant) < self.octant;
         }
         distance < self.distance
     }
@@ -55,7 +55,7 @@ impl Search {
         ensures { (ws : List ℕ) (p : Probe)
             → result ≡ reaches (bests ws p) limit octant distance (search_in self.now) }
     {
-        if ((0 < octant) & (octant < limit)) & (self.entered < (limit as u64)) {
+        if ((0 < octant) & (octant < limit)) & (self.entered < u64::from(limit)) {
             return self.closer(distance, octant);
         }
         false
@@ -75,11 +75,11 @@ impl Search {
         requires { self.old.visited ≤ 4294967296 }
         ensures { self.new ≡ search_after (search_ranked octant rank seen) self.old }
     {
-        self.visited += seen as u64;
+        self.visited += u64::from(seen);
         if self.closer(rank / 4096, octant) {
             self.distance = rank / 4096;
-            self.octant = octant;
-            self.row = (rank % 4096) as u32;
+            self.octant = u64::from(octant);
+            self.row = rank % 4096;
         }
     }
 }

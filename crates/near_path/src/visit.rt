@@ -84,7 +84,7 @@ fn best_of(samples: &[u32], search: &Search) -> Best
     if row < sample_rows(samples.len()) {
         return Best {
             distance: search.distance,
-            row: search.row,
+            row: row as u32,
             tag: tag_of(samples, row),
         };
     }

@@ -5,7 +5,7 @@ use Rattle.near_path.proofs.best.Search.closer.Goals as goal
 
 pub returns-then-distance-self : goal.returns-then-distance-self
 unfolding closer
-returns-then-distance-self c = rw (eq-eqb _ _ c.if-distance-self.true, closer)
+returns-then-distance-self c = rw (c.from.ensures, eq-eqb _ _ c.if-distance-self.true, closer)
 
 pub returns : goal.returns
 unfolding closer

@@ -9,10 +9,10 @@ pub returns-then-octant-limit : goal.returns-then-octant-limit
 unfolding reaches
 returns-then-octant-limit c ws p =
     let s = c.args in
-    c.closer.ensures ∙ all_first (ltb 0 s.octant) (ltb s.octant s.limit) (ltb s.self.now.entered s.limit) _ c.if-octant-limit.true
+    c.closer.ensures ∙ all_first (ltb 0 s.octant) (ltb s.octant s.limit) (ltb s.self.now.entered s.limit) _ (rw c.from.ensures at c.if-octant-limit.true)
 
 pub returns : goal.returns
 unfolding reaches
 returns c ws p =
     let s = c.args in
-    not_first (ltb 0 s.octant) (ltb s.octant s.limit) (ltb s.self.now.entered s.limit) _ c.if-octant-limit.false
+    not_first (ltb 0 s.octant) (ltb s.octant s.limit) (ltb s.self.now.entered s.limit) _ (rw c.from.ensures at c.if-octant-limit.false)
