@@ -2,5 +2,6 @@
 pub mod Closer
 pub mod Measuring
 pub mod Starting
+pub mod Limits
 pub mod Least
 pub mod Found

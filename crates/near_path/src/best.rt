@@ -5,8 +5,7 @@ ghost use Rattle.traversal.specs.Search.{search_entering, reaches, no_search};
 ghost use Rattle.near_path.specs.Best.{closer, unfound, bests};
 ghost use Rattle.near_path.specs.Steps.{search_as, search_in, search_after, search_ranked};
 
-// What is found: how far it is, its sample row and its tag. If the distance is the limit that the search began with, nothing was found, and row and tag
-// mean nothing. (No Option: what a search keeps is compared and copied at each octant, and this is it with its tag.)
+// What is found: how far it is, its sample row and its tag.
 #[derive(Clone, Copy)]
 pub struct Best {
     pub distance: u64,
@@ -14,7 +13,9 @@ pub struct Best {
     pub tag: u32,
 }
 
-// The closest sample's d², its octant's row and its own; how many octants were entered, and how many samples visited.
+// The closest sample's d², its octant's row and its own; how many octants were entered, and how many samples visited. While the distance is the limit that
+// the search began with, none was found, and the rows are 0. (No Option: it is compared at each octant, and what is no closer than the limit drops out by
+// the same comparison.)
 #[derive(Clone, Copy)]
 pub struct Search {
     pub distance: u64,
