@@ -41,13 +41,11 @@ impl Search {
     }
 
     // Whether what is so far, in the octant in a row, comes before the closest sample.
+    #[tactic(auto, unfolding(crate::specs::Best::closer), using(traversal::proofs::Laws::Tests::pairs_less))]
     fn closer(&self, distance: u64, octant: u32) -> bool
         ensures { result ≡ closer (search_in self.now).kept distance octant }
     {
-        if distance == self.distance {
-            return u64::from(octant) < self.octant;
-        }
-        distance < self.distance
+        (distance, u64::from(octant)) < (self.distance, self.octant)
     }
 
     // Whether the octant in a row, so far away, is entered: its row is below the limit and not 0, fewer octants than the limit were entered, and it can

@@ -13,13 +13,11 @@ pub struct Best {
 }
 
 // Whether what is so far, in the octant in a row, comes before the best.
+#[tactic(auto, unfolding(crate::specs::Best::closer), using(traversal::proofs::Laws::Tests::pairs_less))]
 pub fn closer(best: Best, distance: u64, octant: u32) -> bool
     ensures { result ≡ closer best distance octant }
 {
-    if distance == best.distance {
-        return octant < best.octant;
-    }
-    distance < best.distance
+    (distance, octant) < (best.distance, best.octant)
 }
 
 // The best, once a sample is measured.
