@@ -10,6 +10,7 @@ pub mod octant;
 pub mod overlap;
 pub mod panel;
 pub mod refusal;
+pub mod span;
 
 ghost use Rattle.std.specs.Prelude.{◌≡◌, ◌+◌, ◌^◌, ◌<◌, ◌&&◌};
 ghost use Rattle.colour.specs.Channels.{Tried};

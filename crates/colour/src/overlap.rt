@@ -1,9 +1,9 @@
-// How a region lies to a colour and to an octant. A channel's gap is worked out from the octant's least code and side, so the
-// closest and the farthest colour are never built.
+// How a region lies to a colour and to an octant. A channel's gap is worked out from the octant's codes, so the closest and the farthest colour are never
+// built.
 ghost use Rattle.std.specs.Prelude.{◌≡◌, ◌&&◌, ◌+◌, ◌<◌, ◌≤◌, leb, ltb};
-ghost use Rattle.colour.specs.Colour.{apart, distance, greatest_distance};
-ghost use Rattle.colour.specs.Octant.{last_code, children, Within};
-ghost use Rattle.colour.specs.Region.{closest_code, farthest_code, closest, farthest, holds, overlaps, inside};
+ghost use Rattle.colour.specs.Colour.{distance, greatest_distance};
+ghost use Rattle.colour.specs.Octant.{children, Within};
+ghost use Rattle.colour.specs.Region.{closest, farthest, holds, overlaps, inside};
 ghost use Rattle.colour.specs.Mask.{bit_if, mask_of, overlap_mask};
 ghost use Rattle.colour.specs.Steps.{closest_square, missed, halves_of, of_channel, child_below, Small};
 
@@ -11,91 +11,36 @@ use crate::distance::{code_square, square, squared, squares};
 use crate::mask::bit_if;
 use crate::nearby::gaps_of;
 use crate::octant::Parent;
+use crate::span::{Split, spans, splits};
 use crate::{Channels, Codes, Colour, Cube, Region};
-
-// The last code of low .. low + side - 1.
-#[tactic(auto, unfolding(crate::specs::Octant::last_code))]
-fn last_of(low: u32, side: u32) -> u32
-    requires { (1 ≤ side) × (low + side ≤ 65536) }
-    ensures { result ≡ last_code side low }
-{
-    low + side - 1
-}
-
-// How far x is from the closest code of low .. low + side - 1.
-fn closest_gap(x: u32, low: u32, side: u32) -> u16
-    requires { (x ≤ 65535) × ((1 ≤ side) × (low + side ≤ 65536)) }
-    ensures { result ≡ apart x (closest_code low (last_code side low) x) }
-{
-    let last = last_of(low, side);
-    if x <= low {
-        return (low - x) as u16;
-    }
-    if last <= x {
-        return (x - last) as u16;
-    }
-    0
-}
-
-// How far x is from the farthest code of low .. low + side - 1, which is the first or the last.
-fn farthest_gap(x: u32, low: u32, side: u32) -> u16
-    requires { (x ≤ 65535) × ((1 ≤ side) × (low + side ≤ 65536)) }
-    ensures { result ≡ apart x (farthest_code low (last_code side low) x) }
-{
-    let down = x.abs_diff(low);
-    let up = x.abs_diff(last_of(low, side));
-    if down <= up { up as u16 } else { down as u16 }
-}
 
 // d² from a colour to an octant's closest colour. (Not one function over the gap with the next: its contract would have to say of each channel what the
 // gap's does, and be longer than both.)
-#[tactic(auto, using(crate::proofs::Laws::Cubes::cube_room), unfolding(crate::specs::Colour::distance, crate::specs::Colour::sum_of, crate::specs::Region::closest, crate::specs::Colour::colour_by, crate::specs::Colour::code_in))]
+#[tactic(auto, unfolding(crate::specs::Colour::distance, crate::specs::Colour::sum_of, crate::specs::Region::closest, crate::specs::Colour::colour_by, crate::specs::Colour::code_in))]
 pub fn closest_distance(c: Codes, cube: Cube) -> u64
     requires { Within cube }
     ensures is { result ≡ distance c (closest c cube.side cube.low) }
     ensures bounded { result ≤ greatest_distance }
 {
-    squares(
-        c.zip(cube.low)
-            .map(|(x, low)| closest_gap(u32::from(x), low, cube.side)),
-    )
+    squares(c.zip(spans(cube)).map(|(x, span)| span.closest_gap(x)))
 }
 
 // d² from a colour to an octant's farthest colour.
-#[tactic(auto, using(crate::proofs::Laws::Cubes::cube_room), unfolding(crate::specs::Colour::distance, crate::specs::Colour::sum_of, crate::specs::Region::farthest, crate::specs::Colour::colour_by, crate::specs::Colour::code_in))]
+#[tactic(auto, unfolding(crate::specs::Colour::distance, crate::specs::Colour::sum_of, crate::specs::Region::farthest, crate::specs::Colour::colour_by, crate::specs::Colour::code_in))]
 pub fn farthest_distance(c: Codes, cube: Cube) -> u64
     requires { Within cube }
     ensures is { result ≡ distance c (farthest c cube.side cube.low) }
     ensures bounded { result ≤ greatest_distance }
 {
-    squares(
-        c.zip(cube.low)
-            .map(|(x, low)| farthest_gap(u32::from(x), low, cube.side)),
-    )
+    squares(c.zip(spans(cube)).map(|(x, span)| span.farthest_gap(x)))
 }
 
-// The box tests of one channel. `&` and not `&&`: no branch.
+// Whether a code is in low .. high. `&` and not `&&`: no branch.
 fn between(low: u32, x: u16, high: u32) -> bool
     ensures { result ≡ leb low x && leb x high }
 {
     let x = u32::from(x);
     (low <= x) & (x <= high)
-}
-
-// Whether some code of from .. from + side - 1 is in low .. high.
-fn some_between(low: u32, high: u32, from: u32, side: u32) -> bool
-    requires { (1 ≤ side) × (from + side ≤ 65536) }
-    ensures { result ≡ leb low (last_code side from) && leb from high }
-{
-    (low <= last_of(from, side)) & (from <= high)
-}
-
-// Whether all are.
-fn all_between(low: u32, high: u32, from: u32, side: u32) -> bool
-    requires { (1 ≤ side) × (from + side ≤ 65536) }
-    ensures { result ≡ leb low from && leb (last_code side from) high }
-{
-    (low <= from) & (last_of(from, side) <= high)
 }
 
 // A box's two colours are passed as `Region::Box` has them, which definitions name: in a struct of both they would be taken apart by `zip` at once.
@@ -109,25 +54,25 @@ fn box_holds(low: Colour, high: Colour, c: Codes) -> bool
         .every()
 }
 
-#[tactic(auto, using(crate::proofs::Laws::Cubes::cube_room), unfolding(crate::specs::Region::overlaps, crate::specs::Colour::each, crate::specs::Colour::code_in))]
+#[tactic(auto, unfolding(crate::specs::Region::overlaps, crate::specs::Colour::each, crate::specs::Colour::code_in))]
 fn box_overlaps(low: Colour, high: Colour, cube: Cube) -> bool
     requires { Within cube }
     ensures { result ≡ overlaps (Region.Box low high) cube.side cube.low }
 {
     low.zip(high)
-        .zip(cube.low)
-        .map(|((low, high), from)| some_between(low, high, from, cube.side))
+        .zip(spans(cube))
+        .map(|((low, high), span)| span.meets(low, high))
         .every()
 }
 
-#[tactic(auto, using(crate::proofs::Laws::Cubes::cube_room), unfolding(crate::specs::Region::inside, crate::specs::Colour::each, crate::specs::Colour::code_in))]
+#[tactic(auto, unfolding(crate::specs::Region::inside, crate::specs::Colour::each, crate::specs::Colour::code_in))]
 fn box_inside(low: Colour, high: Colour, cube: Cube) -> bool
     requires { Within cube }
     ensures { result ≡ inside (Region.Box low high) cube.side cube.low }
 {
     low.zip(high)
-        .zip(cube.low)
-        .map(|((low, high), from)| all_between(low, high, from, cube.side))
+        .zip(spans(cube))
+        .map(|((low, high), span)| span.lies_in(low, high))
         .every()
 }
 
@@ -185,39 +130,27 @@ pub struct Halves {
     pub upper: u32,
 }
 
-// The first code of the upper half of low .. low + 2 × half - 1.
-fn middle_of(low: u32, half: u32) -> u32
-    requires { (1 ≤ half) × (low + (half + half) ≤ 65536) }
-    ensures { result ≡ low + half }
-{
-    low + half
-}
-
 // What the halves of a channel add to the closest d² of a ball's centre.
 #[tactic(auto, unfolding(crate::specs::Steps::halves_of, crate::specs::Steps::closest_square))]
-pub fn closest_squares(x: u16, low: u32, half: u32) -> Halves
-    requires { (1 ≤ half) × (low + (half + half) ≤ 65536) }
-    ensures is { result ≡ halves_of (closest_square x) half low }
+pub fn closest_squares(x: u16, split: Split) -> Halves
+    ensures is { result ≡ halves_of (closest_square x) split.half split.low }
     ensures small { Small result }
 {
-    let middle = middle_of(low, half);
     Halves {
-        lower: code_square(closest_gap(u32::from(x), low, half)),
-        upper: code_square(closest_gap(u32::from(x), middle, half)),
+        lower: code_square(split.lower().closest_gap(x)),
+        upper: code_square(split.upper().closest_gap(x)),
     }
 }
 
 // What they add for a box: 1 where none of a half's codes is in it.
 #[tactic(auto, unfolding(crate::specs::Steps::missed, crate::specs::Steps::halves_of), using(crate::proofs::Laws::Halves::noes_byte, crate::proofs::Laws::Halves::noes_most))]
-fn misses(low: u32, high: u32, from: u32, half: u32) -> Halves
-    requires { (1 ≤ half) × (from + (half + half) ≤ 65536) }
-    ensures is { result ≡ halves_of (missed low high) half from }
+fn misses(low: u32, high: u32, split: Split) -> Halves
+    ensures is { result ≡ halves_of (missed low high) split.half split.low }
     ensures small { Small result }
 {
-    let middle = middle_of(from, half);
     Halves {
-        lower: u32::from(!some_between(low, high, from, half)),
-        upper: u32::from(!some_between(low, high, middle, half)),
+        lower: u32::from(!split.lower().meets(low, high)),
+        upper: u32::from(!split.upper().meets(low, high)),
     }
 }
 
@@ -252,17 +185,14 @@ fn ball_overlapping(centre: Codes, radius: u32, parent: Parent) -> u32
     mask(gaps_of(centre, parent), square(radius))
 }
 
-#[tactic(auto, using(crate::proofs::Laws::Cubes::parent_room))]
 fn box_overlapping(low: Colour, high: Colour, parent: Parent) -> u32
     ensures is { result ≡ overlap_mask (Region.Box low high) parent.half parent.cube.low }
     ensures bounded { result < 256 }
 {
-    let from = parent.cube.low;
-    let half = parent.half;
     let halves = low
         .zip(high)
-        .zip(from)
-        .map(|((low, high), from)| misses(low, high, from, half));
+        .zip(splits(parent))
+        .map(|((low, high), split)| misses(low, high, split));
     mask(halves, 1)
 }
 

@@ -1,0 +1,154 @@
+// The codes that an octant has in one channel.
+ghost use Rattle.std.specs.Prelude.{◌≡◌, ◌&&◌, ◌+◌, ◌*◌, ◌/◌, ◌%◌, ◌<◌, ◌≤◌, leb};
+ghost use Rattle.colour.specs.Colour.{apart};
+ghost use Rattle.colour.specs.Octant.{last_code, Within};
+ghost use Rattle.colour.specs.Region.{closest_code, farthest_code};
+ghost use Rattle.colour.specs.Mask.{bit_if};
+
+use crate::mask::bit_if;
+use crate::octant::Parent;
+use crate::{Channels, Cube};
+
+// A run of codes: low .. low + side - 1.
+#[derive(Clone, Copy)]
+pub struct Span {
+    pub low: u32,
+    pub side: u32,
+    ghost some: { 1 ≤ side },
+    ghost fits: { low + side ≤ 65536 },
+}
+
+impl Span {
+    fn new(low: u32, side: u32) -> Span
+        requires { (1 ≤ side) × (low + side ≤ 65536) }
+        ensures low { result.low ≡ low }
+        ensures side { result.side ≡ side }
+    {
+        Span { low, side }
+    }
+
+    // The last of them.
+    #[tactic(auto, unfolding(crate::specs::Octant::last_code))]
+    fn last(self) -> u32
+        ensures { result ≡ last_code self.side self.low }
+    {
+        self.low + self.side - 1
+    }
+
+    // How far x is from the closest.
+    pub(crate) fn closest_gap(self, x: u16) -> u16
+        ensures { result ≡ apart x (closest_code self.low (last_code self.side self.low) x) }
+    {
+        let x = u32::from(x);
+        let last = self.last();
+        if x <= self.low {
+            return (self.low - x) as u16;
+        }
+        if last <= x {
+            return (x - last) as u16;
+        }
+        0
+    }
+
+    // How far x is from the farthest, which is the first or the last.
+    pub(crate) fn farthest_gap(self, x: u16) -> u16
+        ensures { result ≡ apart x (farthest_code self.low (last_code self.side self.low) x) }
+    {
+        let x = u32::from(x);
+        let down = x.abs_diff(self.low);
+        let up = x.abs_diff(self.last());
+        if down <= up { up as u16 } else { down as u16 }
+    }
+
+    // Whether some of them are in low .. high. `&` and not `&&`: no branch.
+    pub(crate) fn meets(self, low: u32, high: u32) -> bool
+        ensures { result ≡ leb low (last_code self.side self.low) && leb self.low high }
+    {
+        (low <= self.last()) & (self.low <= high)
+    }
+
+    // Whether all are.
+    pub(crate) fn lies_in(self, low: u32, high: u32) -> bool
+        ensures { result ≡ leb low self.low && leb (last_code self.side self.low) high }
+    {
+        (low <= self.low) & (self.last() <= high)
+    }
+}
+
+// An octant's codes, channel by channel.
+#[tactic(auto, using(crate::proofs::Laws::Cubes::cube_room))]
+pub(crate) fn spans(cube: Cube) -> Channels<Span>
+    requires { Within cube }
+    ensures red { (result.red.low ≡ cube.low.red) × (result.red.side ≡ cube.side) }
+    ensures green { (result.green.low ≡ cube.low.green) × (result.green.side ≡ cube.side) }
+    ensures blue { (result.blue.low ≡ cube.low.blue) × (result.blue.side ≡ cube.side) }
+{
+    cube.low.map(|low| Span::new(low, cube.side))
+}
+
+// The codes of a split octant: low .. low + half - 1 are its lower children's, and as many after them its upper ones'.
+#[derive(Clone, Copy)]
+pub struct Split {
+    pub low: u32,
+    pub half: u32,
+    ghost some: { 1 ≤ half },
+    ghost fits: { low + (half + half) ≤ 65536 },
+}
+
+impl Split {
+    fn new(low: u32, half: u32) -> Split
+        requires { (1 ≤ half) × (low + (half + half) ≤ 65536) }
+        ensures low { result.low ≡ low }
+        ensures half { result.half ≡ half }
+    {
+        Split { low, half }
+    }
+
+    // The first code of the upper half.
+    fn middle(self) -> u32
+        ensures { result ≡ self.low + self.half }
+    {
+        self.low + self.half
+    }
+
+    // The two halves.
+    pub(crate) fn lower(self) -> Span
+        ensures low { result.low ≡ self.low }
+        ensures side { result.side ≡ self.half }
+    {
+        Span::new(self.low, self.half)
+    }
+
+    pub(crate) fn upper(self) -> Span
+        ensures low { result.low ≡ self.low + self.half }
+        ensures side { result.side ≡ self.half }
+    {
+        Span::new(self.middle(), self.half)
+    }
+
+    // The least code of child k, in the channel of that weight: bit 1 is the upper half.
+    pub(crate) fn child_code(self, k: u32, weight: u32) -> u32
+        requires { 1 ≤ weight }
+        ensures { result ≡ self.low + k / weight % 2 * self.half }
+    {
+        self.low + k / weight % 2 * self.half
+    }
+
+    // The weight if a code is in the upper half, or past it.
+    pub(crate) fn upper_bit(self, x: u16, weight: u32) -> u32
+        ensures is { result ≡ bit_if (leb (self.low + self.half) x) weight }
+        ensures bounded { result ≤ weight }
+    {
+        bit_if(self.middle() <= u32::from(x), weight)
+    }
+}
+
+// A split octant's codes, channel by channel.
+#[tactic(auto, using(crate::proofs::Laws::Cubes::parent_room))]
+pub(crate) fn splits(parent: Parent) -> Channels<Split>
+    ensures red { (result.red.low ≡ parent.cube.low.red) × (result.red.half ≡ parent.half) }
+    ensures green { (result.green.low ≡ parent.cube.low.green) × (result.green.half ≡ parent.half) }
+    ensures blue { (result.blue.low ≡ parent.cube.low.blue) × (result.blue.half ≡ parent.half) }
+{
+    parent.cube.low.map(|low| Split::new(low, parent.half))
+}
