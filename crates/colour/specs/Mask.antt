@@ -9,6 +9,11 @@ use Rattle.colour.specs.Region.{overlaps}
 unfoldable pub bit_if : Bool → ℕ → ℕ
 bit_if t w = elim t [ true ↦ w | false ↦ 0 ]
 
+-- The first if a bit is 0, else the second.
+unfoldable pub by_bit : {T : Type 0} → ℕ → T → T → T
+by_bit zero lower upper = lower
+by_bit (suc b) lower upper = upper
+
 -- The number whose bit k is set exactly where f k says so, for k below n.
 unfoldable pub mask_of : (ℕ → Bool) → ℕ → ℕ
 mask_of f zero = 0

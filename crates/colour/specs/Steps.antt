@@ -6,11 +6,15 @@ use Rattle.colour.specs.declared.Region.TheVariants.{Ball, Box}
 use Rattle.colour.specs.declared.overlap.Halves.{Halves}
 use Rattle.colour.specs.Colour.{Channel, code_in, sum_of, apart}
 use Rattle.colour.specs.Octant.{last_code, bit_weight}
-use Rattle.colour.specs.Region.{closest_code}
+use Rattle.colour.specs.Region.{closest_code, farthest_code}
 
 -- What the s codes from low add to the d² of the closest colour to a centre with the code x.
 unfoldable pub closest_square : ℕ → ℕ → ℕ → ℕ
 closest_square x s low = apart x (closest_code low (last_code s low) x) * apart x (closest_code low (last_code s low) x)
+
+-- What they add to that of the farthest.
+unfoldable pub farthest_square : ℕ → ℕ → ℕ → ℕ
+farthest_square x s low = apart x (farthest_code low (last_code s low) x) * apart x (farthest_code low (last_code s low) x)
 
 -- 0 for yes, 1 for no.
 unfoldable pub noes : Bool → ℕ

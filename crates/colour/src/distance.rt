@@ -1,8 +1,8 @@
 // The squared distance of two colours, in 64 bits: three squares of codes do not fit 32.
-ghost use Rattle.std.specs.Prelude.{pos, ◌-ℤ◌, ◌≡◌, ◌+◌, ◌*◌, ◌≤◌};
+ghost use Rattle.std.specs.Prelude.{pos, ◌-ℤ◌, ◌≡◌, ◌*◌, ◌≤◌};
 ghost use Rattle.colour.specs.Colour.{apart, distance, greatest_distance};
 
-use crate::{Channels, Codes};
+use crate::Codes;
 
 // Any 32-bit number's square fits 64 bits.
 pub fn square(x: u32) -> u64
@@ -10,15 +10,6 @@ pub fn square(x: u32) -> u64
 {
     let wide = u64::from(x);
     wide * wide
-}
-
-// The sum of three squares of codes.
-pub(crate) fn sum_of(red: u64, green: u64, blue: u64) -> u64
-    requires { (red ≤ 4294836225) × ((green ≤ 4294836225) × (blue ≤ 4294836225)) }
-    ensures is { result ≡ red + green + blue }
-    ensures bounded { result ≤ greatest_distance }
-{
-    red + green + blue
 }
 
 // The difference of two codes, which is less than 0 if the second is the greater.
@@ -43,6 +34,5 @@ pub fn squared(a: Codes, b: Codes) -> u64
     ensures is { result ≡ distance a b }
     ensures bounded { result ≤ greatest_distance }
 {
-    let Channels { red, green, blue } = a.zip(b).map(|(x, y)| apart_square(x, y));
-    sum_of(red, green, blue)
+    a.zip(b).map(|(x, y)| apart_square(x, y)).sum()
 }

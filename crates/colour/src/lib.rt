@@ -10,8 +10,9 @@ pub mod octant;
 pub mod overlap;
 pub mod panel;
 pub mod refusal;
+pub mod span;
 
-ghost use Rattle.std.specs.Prelude.{◌≡◌, ◌&&◌};
+ghost use Rattle.std.specs.Prelude.{◌≡◌, ◌+◌, ◌^◌, ◌<◌, ◌&&◌};
 ghost use Rattle.colour.specs.Channels.{Tried};
 ghost use Rattle.colour.specs.Colour.{wrapped, InRange};
 
@@ -82,6 +83,16 @@ impl Channels<bool> {
         ensures { result ≡ self.red && self.green && self.blue }
     {
         self.red & self.green & self.blue
+    }
+}
+
+impl Channels<u64> {
+    // What the three come to.
+    pub fn sum(self) -> u64
+        requires { self.red + self.green + self.blue < 2 ^ 64 }
+        ensures { result ≡ self.red + self.green + self.blue }
+    {
+        self.red + self.green + self.blue
     }
 }
 

@@ -1,7 +1,7 @@
-// The children in a mask, taken out one after the other, and the bits that make one.
+// The children in a mask, taken out one after the other, the bits that make one, and a choice by a bit.
 ghost use Rattle.std.specs.Prelude.{◌≡◌, ◌-◌, ◌^◌, ◌<◌, ◌≤◌};
 ghost use Rattle.std.specs.Int.Count.{count_trailing_zeros};
-ghost use Rattle.colour.specs.Mask.{bit_if};
+ghost use Rattle.colour.specs.Mask.{bit_if, by_bit};
 
 // The least child in a mask that is not 0.
 pub fn first(mask: u32) -> u32
@@ -26,4 +26,12 @@ pub fn bit_if(test: bool, weight: u32) -> u32
     ensures bounded { result ≤ weight }
 {
     if test { weight } else { 0 }
+}
+
+// The first if a bit is 0, else the second.
+#[tactic(auto, unfolding(crate::specs::Mask::by_bit))]
+pub fn by_bit<T: Copy>(bit: u32, lower: T, upper: T) -> T
+    ensures { result ≡ by_bit bit lower upper }
+{
+    if bit == 0 { lower } else { upper }
 }

@@ -1,67 +1,46 @@
 // How far the children of an octant are from a colour. The eight distances share six squares.
-ghost use Rattle.std.specs.Prelude.{◌+◌, ◌<◌, ◌≤◌, ◌≡◌, leb};
-ghost use Rattle.colour.specs.Mask.{bit_if};
-ghost use Rattle.colour.specs.Steps.{half_at, Small};
+ghost use Rattle.std.specs.Prelude.{◌<◌, ◌≡◌};
+ghost use Rattle.colour.specs.Steps.{Small};
 ghost use Rattle.colour.specs.Nearby.{closest_child, gaps_of, closest_by, SmallGaps};
 
-use crate::distance::sum_of;
-use crate::mask::bit_if;
+use crate::mask::by_bit;
 use crate::octant::Parent;
 use crate::overlap::{Halves, closest_squares};
+use crate::span::splits;
 use crate::{Channels, Codes};
 
 // What each half of each channel adds to the closest d² of the children of a split octant.
-#[tactic(auto, using(crate::proofs::Laws::Cubes::parent_room), unfolding(crate::specs::Nearby::gaps_of))]
+#[tactic(auto, unfolding(crate::specs::Nearby::gaps_of))]
 pub fn gaps_of(c: Codes, parent: Parent) -> Channels<Halves>
     ensures is { result ≡ gaps_of c parent.half parent.cube.low }
     ensures small { SmallGaps result }
 {
-    let low = parent.cube.low;
-    let half = parent.half;
-    c.zip(low).map(|(x, from)| closest_squares(x, from, half))
+    c.zip(splits(parent))
+        .map(|(x, split)| closest_squares(x, split))
 }
 
-// The half of a bit: 1 is the upper one.
-#[tactic(auto, unfolding(crate::specs::Steps::half_at))]
-fn half_at(v: Halves, bit: u32) -> u64
-    requires { Small v }
-    ensures is { result ≡ half_at v bit }
-    ensures bounded { result ≤ 4294836225 }
-{
-    if bit == 0 { v.lower } else { v.upper }
-}
-
-// d² to the closest colour of child k.
-#[tactic(auto, unfolding(crate::specs::Nearby::closest_by, crate::specs::Steps::child_sum, crate::specs::Colour::sum_of, crate::specs::Steps::of_channel, crate::specs::Octant::bit_weight))]
+// d² to the closest colour of child k, whose bits say which half of each channel it is in: 1 is the upper one.
+#[tactic(auto, using(crate::proofs::Laws::Halves::half_by), unfolding(crate::specs::Nearby::closest_by, crate::specs::Steps::child_sum, crate::specs::Colour::sum_of, crate::specs::Steps::of_channel, crate::specs::Octant::bit_weight))]
 pub fn closest_by(gaps: Channels<Halves>, k: u32) -> u64
     requires { SmallGaps gaps }
     ensures { result ≡ closest_by gaps k }
 {
-    sum_of(
-        half_at(gaps.red, k % 2),
-        half_at(gaps.green, k / 2 % 2),
-        half_at(gaps.blue, k / 4 % 2),
-    )
-}
-
-// The weight if a code is in the upper half, or past it.
-fn upper(x: u16, low: u32, half: u32, weight: u32) -> u32
-    requires { low + half ≤ 65536 }
-    ensures is { result ≡ bit_if (leb (low + half) x) weight }
-    ensures bounded { result ≤ weight }
-{
-    bit_if(low + half <= u32::from(x), weight)
+    Channels {
+        red: by_bit(k % 2, gaps.red.lower, gaps.red.upper),
+        green: by_bit(k / 2 % 2, gaps.green.lower, gaps.green.upper),
+        blue: by_bit(k / 4 % 2, gaps.blue.lower, gaps.blue.upper),
+    }
+    .sum()
 }
 
 // The child that a colour lies in or is closest to.
-#[tactic(auto, using(crate::proofs::Laws::Cubes::parent_room), unfolding(crate::specs::Nearby::closest_child, crate::specs::Colour::sum_of, crate::specs::Colour::code_in, crate::specs::Octant::bit_weight))]
+#[tactic(auto, unfolding(crate::specs::Nearby::closest_child, crate::specs::Colour::sum_of, crate::specs::Colour::code_in, crate::specs::Octant::bit_weight))]
 pub fn closest_child(c: Codes, parent: Parent) -> u32
     ensures is { result ≡ closest_child c parent.half parent.cube.low }
     ensures bounded { result < 8 }
 {
-    let low = parent.cube.low;
-    let half = parent.half;
-    upper(c.red, low.red, half, 1)
-        + upper(c.green, low.green, half, 2)
-        + upper(c.blue, low.blue, half, 4)
+    let splits = splits(parent);
+    splits.red.upper_bit(c.red, 1)
+        + splits.green.upper_bit(c.green, 2)
+        + splits.blue.upper_bit(c.blue, 4)
 }

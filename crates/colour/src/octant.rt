@@ -1,8 +1,12 @@
 // The side of an octant by its depth, and the cubes of the root and of an octant's children.
-ghost use Rattle.std.specs.Prelude.{◌≡◌, suc, ◌+◌, ◌*◌, ◌/◌, ◌%◌, ◌<◌, ◌≤◌};
+ghost use Rattle.std.specs.Prelude.{◌≡◌, suc, ◌<◌, ◌≤◌};
 ghost use Rattle.colour.specs.Octant.{side_at, root_cube, child_cube, Within};
 
+use crate::span::splits;
 use crate::{Channels, Cube};
+
+// The depth of an octant of side 1: so many depths lie below the root.
+pub const DEPTHS: u32 = 16;
 
 // The sides at depths 0 to 16.
 const SIDES: [u32; 17] = [
@@ -30,14 +34,6 @@ pub fn root() -> Cube
     }
 }
 
-// The least code of child k in the channel of that weight: bit 1 is the upper half.
-fn child_code(low: u32, k: u32, weight: u32, side: u32) -> u32
-    requires { (1 ≤ weight) × ((1 ≤ side) × (low + (side + side) ≤ 65536)) }
-    ensures { result ≡ low + k / weight % 2 * side }
-{
-    low + k / weight % 2 * side
-}
-
 // An octant of side over 1, with the side of its children, which is looked up once for all eight.
 #[derive(Clone, Copy)]
 pub struct Parent {
@@ -61,20 +57,18 @@ pub fn parent_of(cube: Cube) -> Parent
 }
 
 // Child k of a split octant.
-#[tactic(auto, using(crate::proofs::Laws::Cubes::parent_room))]
 pub fn child(parent: Parent, k: u32) -> Cube
     ensures is { result ≡ child_cube parent.cube k }
     ensures within { Within result }
 {
-    let low = parent.cube.low;
-    let half = parent.half;
+    let splits = splits(parent);
     Cube {
         low: Channels {
-            red: child_code(low.red, k, 1, half),
-            green: child_code(low.green, k, 2, half),
-            blue: child_code(low.blue, k, 4, half),
+            red: splits.red.child_code(k, 1),
+            green: splits.green.child_code(k, 2),
+            blue: splits.blue.child_code(k, 4),
         },
         depth: parent.cube.depth + 1,
-        side: half,
+        side: parent.half,
     }
 }

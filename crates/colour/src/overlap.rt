@@ -1,95 +1,46 @@
-// How a region lies to a colour and to an octant. A channel's gap is worked out from the octant's least code and side, so the
-// closest and the farthest colour are never built.
-ghost use Rattle.std.specs.Prelude.{◌≡◌, ◌&&◌, ◌+◌, ◌*◌, ◌<◌, ◌≤◌, leb, ltb};
-ghost use Rattle.colour.specs.Colour.{apart, distance, greatest_distance};
-ghost use Rattle.colour.specs.Octant.{last_code, children, Within};
-ghost use Rattle.colour.specs.Region.{closest_code, farthest_code, closest, farthest, holds, overlaps, inside};
+// How a region lies to a colour and to an octant. A channel's gap is worked out from the octant's codes, so the closest and the farthest colour are never
+// built.
+ghost use Rattle.std.specs.Prelude.{◌≡◌, ◌&&◌, ◌+◌, ◌^◌, ◌<◌, ◌≤◌, leb, ltb};
+ghost use Rattle.colour.specs.Colour.{distance, greatest_distance};
+ghost use Rattle.colour.specs.Octant.{children, Within};
+ghost use Rattle.colour.specs.Region.{closest, farthest, holds, overlaps, inside};
 ghost use Rattle.colour.specs.Mask.{bit_if, mask_of, overlap_mask};
 ghost use Rattle.colour.specs.Nearby.{SmallGaps};
 ghost use Rattle.colour.specs.Steps.{closest_square, missed, halves_of, of_channel, child_below, Small};
 
-use crate::distance::{square, squared, sum_of};
+use crate::distance::{square, squared};
 use crate::mask::bit_if;
 use crate::nearby::gaps_of;
 use crate::octant::Parent;
+use crate::span::{Split, spans, splits};
 use crate::{Channels, Codes, Colour, Cube, Region};
 
-// The last code of low .. low + side - 1.
-#[tactic(auto, unfolding(crate::specs::Octant::last_code))]
-fn last_of(low: u32, side: u32) -> u32
-    requires { (1 ≤ side) × (low + side ≤ 65536) }
-    ensures { result ≡ last_code side low }
-{
-    low + side - 1
-}
-
-// How far x is from the closest code of low .. low + side - 1: one of the two differences is 0. Nothing branches, since on which side of an octant a centre
-// lies can't be foreseen.
-#[tactic(auto, unfolding(crate::specs::Colour::apart, crate::specs::Octant::last_code))]
-fn closest_gap(x: u16, low: u32, side: u32) -> u32
-    requires { (1 ≤ side) × (low + side ≤ 65536) }
-    ensures is { result ≡ apart x (closest_code low (last_code side low) x) }
-    ensures bounded { result ≤ 65535 }
-{
-    let x = u32::from(x);
-    low.saturating_sub(x) + x.saturating_sub(last_of(low, side))
-}
-
-// How far x is from the farthest code of low .. low + side - 1, which is the first or the last.
-fn farthest_gap(x: u16, low: u32, side: u32) -> u32
-    requires { (1 ≤ side) × (low + side ≤ 65536) }
-    ensures is { result ≡ apart x (farthest_code low (last_code side low) x) }
-    ensures bounded { result ≤ 65535 }
-{
-    let x = u32::from(x);
-    x.abs_diff(low).max(x.abs_diff(last_of(low, side)))
-}
-
-// The squares of both.
-#[tactic(auto, unfolding(crate::specs::Steps::closest_square))]
-fn closest_square(x: u16, low: u32, side: u32) -> u64
-    requires { (1 ≤ side) × (low + side ≤ 65536) }
-    ensures is { result ≡ closest_square x side low }
-    ensures bounded { result ≤ 4294836225 }
-{
-    square(closest_gap(x, low, side))
-}
-
-fn farthest_square(x: u16, low: u32, side: u32) -> u64
-    requires { (1 ≤ side) × (low + side ≤ 65536) }
-    ensures is { result ≡ apart x (farthest_code low (last_code side low) x) * apart x (farthest_code low (last_code side low) x) }
-    ensures bounded { result ≤ 4294836225 }
-{
-    square(farthest_gap(x, low, side))
-}
-
-// d² from a colour to an octant's closest colour.
-#[tactic(auto, using(crate::proofs::Laws::Cubes::cube_room), unfolding(crate::specs::Colour::distance, crate::specs::Colour::sum_of, crate::specs::Region::closest, crate::specs::Colour::colour_by, crate::specs::Colour::code_in, crate::specs::Steps::closest_square))]
+// d² from a colour to an octant's closest colour. (Not one function over the gap with the next: its contract would have to say of each channel what the
+// gap's does, and be longer than both.)
+#[tactic(auto, unfolding(crate::specs::Colour::distance, crate::specs::Colour::sum_of, crate::specs::Region::closest, crate::specs::Colour::colour_by, crate::specs::Colour::code_in, crate::specs::Steps::closest_square))]
 pub fn closest_distance(c: Codes, cube: Cube) -> u64
     requires { Within cube }
     ensures is { result ≡ distance c (closest c cube.side cube.low) }
     ensures bounded { result ≤ greatest_distance }
 {
-    let Channels { red, green, blue } = c
-        .zip(cube.low)
-        .map(|(x, low)| closest_square(x, low, cube.side));
-    sum_of(red, green, blue)
+    c.zip(spans(cube))
+        .map(|(x, span)| span.closest_square(x))
+        .sum()
 }
 
 // d² from a colour to an octant's farthest colour.
-#[tactic(auto, using(crate::proofs::Laws::Cubes::cube_room), unfolding(crate::specs::Colour::distance, crate::specs::Colour::sum_of, crate::specs::Region::farthest, crate::specs::Colour::colour_by, crate::specs::Colour::code_in))]
+#[tactic(auto, unfolding(crate::specs::Colour::distance, crate::specs::Colour::sum_of, crate::specs::Region::farthest, crate::specs::Colour::colour_by, crate::specs::Colour::code_in, crate::specs::Steps::farthest_square))]
 pub fn farthest_distance(c: Codes, cube: Cube) -> u64
     requires { Within cube }
     ensures is { result ≡ distance c (farthest c cube.side cube.low) }
     ensures bounded { result ≤ greatest_distance }
 {
-    let Channels { red, green, blue } = c
-        .zip(cube.low)
-        .map(|(x, low)| farthest_square(x, low, cube.side));
-    sum_of(red, green, blue)
+    c.zip(spans(cube))
+        .map(|(x, span)| span.farthest_square(x))
+        .sum()
 }
 
-// The box tests of one channel. `&` and not `&&`: no branch.
+// Whether a code is in low .. high. `&` and not `&&`: no branch.
 fn between(low: u32, x: u16, high: u32) -> bool
     ensures { result ≡ leb low x && leb x high }
 {
@@ -97,22 +48,7 @@ fn between(low: u32, x: u16, high: u32) -> bool
     (low <= x) & (x <= high)
 }
 
-// Whether some code of from .. from + side - 1 is in low .. high.
-fn some_between(low: u32, high: u32, from: u32, side: u32) -> bool
-    requires { (1 ≤ side) × (from + side ≤ 65536) }
-    ensures { result ≡ leb low (last_code side from) && leb from high }
-{
-    (low <= last_of(from, side)) & (from <= high)
-}
-
-// Whether all are.
-fn all_between(low: u32, high: u32, from: u32, side: u32) -> bool
-    requires { (1 ≤ side) × (from + side ≤ 65536) }
-    ensures { result ≡ leb low from && leb (last_code side from) high }
-{
-    (low <= from) & (last_of(from, side) <= high)
-}
-
+// A box's two colours are passed as `Region::Box` has them, which definitions name: in a struct of both they would be taken apart by `zip` at once.
 #[tactic(auto, unfolding(crate::specs::Region::holds, crate::specs::Colour::each, crate::specs::Colour::code_in))]
 fn box_holds(low: Colour, high: Colour, c: Codes) -> bool
     ensures { result ≡ holds (Region.Box low high) c }
@@ -123,25 +59,25 @@ fn box_holds(low: Colour, high: Colour, c: Codes) -> bool
         .every()
 }
 
-#[tactic(auto, using(crate::proofs::Laws::Cubes::cube_room), unfolding(crate::specs::Region::overlaps, crate::specs::Colour::each, crate::specs::Colour::code_in))]
+#[tactic(auto, unfolding(crate::specs::Region::overlaps, crate::specs::Colour::each, crate::specs::Colour::code_in))]
 fn box_overlaps(low: Colour, high: Colour, cube: Cube) -> bool
     requires { Within cube }
     ensures { result ≡ overlaps (Region.Box low high) cube.side cube.low }
 {
     low.zip(high)
-        .zip(cube.low)
-        .map(|((low, high), from)| some_between(low, high, from, cube.side))
+        .zip(spans(cube))
+        .map(|((low, high), span)| span.meets(low, high))
         .every()
 }
 
-#[tactic(auto, using(crate::proofs::Laws::Cubes::cube_room), unfolding(crate::specs::Region::inside, crate::specs::Colour::each, crate::specs::Colour::code_in))]
+#[tactic(auto, unfolding(crate::specs::Region::inside, crate::specs::Colour::each, crate::specs::Colour::code_in))]
 fn box_inside(low: Colour, high: Colour, cube: Cube) -> bool
     requires { Within cube }
     ensures { result ≡ inside (Region.Box low high) cube.side cube.low }
 {
     low.zip(high)
-        .zip(cube.low)
-        .map(|((low, high), from)| all_between(low, high, from, cube.side))
+        .zip(spans(cube))
+        .map(|((low, high), span)| span.lies_in(low, high))
         .every()
 }
 
@@ -199,49 +135,37 @@ pub struct Halves {
     pub upper: u64,
 }
 
-// The first code of the upper half of low .. low + 2 × half - 1.
-fn middle_of(low: u32, half: u32) -> u32
-    requires { (1 ≤ half) × (low + (half + half) ≤ 65536) }
-    ensures { result ≡ low + half }
-{
-    low + half
-}
-
 // What the halves of a channel add to the closest d² of a ball's centre.
-#[tactic(auto, unfolding(crate::specs::Steps::halves_of, crate::specs::Steps::closest_square))]
-pub fn closest_squares(x: u16, low: u32, half: u32) -> Halves
-    requires { (1 ≤ half) × (low + (half + half) ≤ 65536) }
-    ensures is { result ≡ halves_of (closest_square x) half low }
+#[tactic(auto, unfolding(crate::specs::Steps::halves_of))]
+pub fn closest_squares(x: u16, split: Split) -> Halves
+    ensures is { result ≡ halves_of (closest_square x) split.half split.low }
     ensures small { Small result }
 {
-    let middle = middle_of(low, half);
     Halves {
-        lower: closest_square(x, low, half),
-        upper: closest_square(x, middle, half),
+        lower: split.lower().closest_square(x),
+        upper: split.upper().closest_square(x),
     }
 }
 
 // What they add for a box: 1 where none of a half's codes is in it.
 #[tactic(auto, unfolding(crate::specs::Steps::missed, crate::specs::Steps::halves_of), using(crate::proofs::Laws::Halves::noes_byte, crate::proofs::Laws::Halves::noes_most))]
-fn misses(low: u32, high: u32, from: u32, half: u32) -> Halves
-    requires { (1 ≤ half) × (from + (half + half) ≤ 65536) }
-    ensures is { result ≡ halves_of (missed low high) half from }
+fn misses(low: u32, high: u32, split: Split) -> Halves
+    ensures is { result ≡ halves_of (missed low high) split.half split.low }
     ensures small { Small result }
 {
-    let middle = middle_of(from, half);
     Halves {
-        lower: u64::from(!some_between(low, high, from, half)),
-        upper: u64::from(!some_between(low, high, middle, half)),
+        lower: u64::from(!split.lower().meets(low, high)),
+        upper: u64::from(!split.upper().meets(low, high)),
     }
 }
 
 // A child's bit.
 fn bit(red: u64, green: u64, blue: u64, limit: u64, weight: u32) -> u32
-    requires { (red ≤ 4294836225) × ((green ≤ 4294836225) × (blue ≤ 4294836225)) }
+    requires { red + green + blue < 2 ^ 64 }
     ensures is { result ≡ bit_if (ltb (red + green + blue) limit) weight }
     ensures bounded { result ≤ weight }
 {
-    bit_if(sum_of(red, green, blue) < limit, weight)
+    bit_if(Channels { red, green, blue }.sum() < limit, weight)
 }
 
 // The children whose halves add up to less than a limit. The eight sums share the six numbers, and nothing branches.
@@ -268,17 +192,14 @@ fn ball_overlapping(centre: Codes, radius: u32, parent: Parent) -> u32
     mask(gaps_of(centre, parent), square(radius))
 }
 
-#[tactic(auto, using(crate::proofs::Laws::Cubes::parent_room))]
 fn box_overlapping(low: Colour, high: Colour, parent: Parent) -> u32
     ensures is { result ≡ overlap_mask (Region.Box low high) parent.half parent.cube.low }
     ensures bounded { result < 256 }
 {
-    let from = parent.cube.low;
-    let half = parent.half;
     let halves = low
         .zip(high)
-        .zip(from)
-        .map(|((low, high), from)| misses(low, high, from, half));
+        .zip(splits(parent))
+        .map(|((low, high), split)| misses(low, high, split));
     mask(halves, 1)
 }
 

@@ -1,7 +1,7 @@
 -- The closest sample so far (document 01, "Picks": the least d², the earliest in the walk among equals), as what a search keeps.
 -- A search may take octants in any sequence. Octant rows are numbered in the order, so of two samples at the same d² in two octants the one whose octant
 -- has the lower row is the earlier; within an octant it is the one in the lower sample row.
-use Rattle.std.specs.Prelude.{ℕ, ◌+◌, ◌*◌, ◌/◌, ◌%◌, min, Bool, true, false, List, [], ◌∷◌, eqb, ltb, length}
+use Rattle.std.specs.Prelude.{ℕ, Option, Some, None, ◌+◌, ◌*◌, ◌/◌, ◌%◌, min, Bool, true, false, List, [], ◌∷◌, eqb, ltb, length}
 use Rattle.colour.specs.declared.Probe.{Probe}
 use Rattle.colour.specs.Colour.{distance, wrapped}
 use Rattle.model.specs.Layout.{current, sample_rows}
@@ -81,3 +81,12 @@ best_found ws os p r = best_of ws (search_best ws os p r).kept
 unfoldable pub best_answer : ℕ → Best → List ℕ → Answer
 best_answer limit best left =
     elim (ltb best.distance limit) [ true ↦ nearest_answer 0 true best.tag best.distance left | false ↦ nearest_answer 0 false 0 0 left ]
+
+-- What was found, by the limit that the search began with: nothing, if it is no closer.
+unfoldable pub found_if : ℕ → Best → Option Best
+found_if limit best = elim (ltb best.distance limit) [ true ↦ Some best | false ↦ None ]
+
+-- The answer by that: its tag and d², else none with both 0.
+unfoldable pub answer_of : Option Best → List ℕ → Answer
+answer_of (Some best) left = nearest_answer 0 true best.tag best.distance left
+answer_of None left = nearest_answer 0 false 0 0 left

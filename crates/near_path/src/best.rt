@@ -5,8 +5,7 @@ ghost use Rattle.traversal.specs.Search.{search_entering, reaches, no_search};
 ghost use Rattle.near_path.specs.Best.{closer, unfound, bests};
 ghost use Rattle.near_path.specs.Steps.{search_as, search_in, search_after, search_ranked};
 
-// What is found: how far it is, its sample row and its tag. If the distance is the limit that the search began with, nothing was found, and row and tag
-// mean nothing. (No Option: what a search keeps is compared and copied at each octant, and this is it with its tag.)
+// What is found: how far it is, its sample row and its tag.
 #[derive(Clone, Copy)]
 pub struct Best {
     pub distance: u64,
@@ -14,12 +13,14 @@ pub struct Best {
     pub tag: u32,
 }
 
-// The closest sample's d², its octant's row and its own; how many octants were entered, and how many samples visited.
+// The closest sample's d², its octant's row and its own; how many octants were entered, and how many samples visited. While the distance is the limit that
+// the search began with, none was found, and the rows are 0. (No Option: it is compared at each octant, and what is no closer than the limit drops out by
+// the same comparison.)
 #[derive(Clone, Copy)]
 pub struct Search {
     pub distance: u64,
-    pub octant: u32,
-    pub row: u32,
+    pub octant: u64,
+    pub row: u64,
     pub entered: u64,
     pub visited: u64,
 }
@@ -40,13 +41,11 @@ impl Search {
     }
 
     // Whether what is so far, in the octant in a row, comes before the closest sample.
+    #[tactic(auto, unfolding(crate::specs::Best::closer), using(traversal::proofs::Laws::Tests::pairs_less))]
     fn closer(&self, distance: u64, octant: u32) -> bool
         ensures { result ≡ closer (search_in self.now).kept distance octant }
     {
-        if distance == self.distance {
-            return octant < self.octant;
-        }
-        distance < self.distance
+        (distance, u64::from(octant)) < (self.distance, self.octant)
     }
 
     // Whether the octant in a row, so far away, is entered: its row is below the limit and not 0, fewer octants than the limit were entered, and it can
@@ -55,7 +54,7 @@ impl Search {
         ensures { (ws : List ℕ) (p : Probe)
             → result ≡ reaches (bests ws p) limit octant distance (search_in self.now) }
     {
-        if ((0 < octant) & (octant < limit)) & (self.entered < (limit as u64)) {
+        if ((0 < octant) & (octant < limit)) & (self.entered < u64::from(limit)) {
             return self.closer(distance, octant);
         }
         false
@@ -75,11 +74,11 @@ impl Search {
         requires { self.old.visited ≤ 4294967296 }
         ensures { self.new ≡ search_after (search_ranked octant rank seen) self.old }
     {
-        self.visited += seen as u64;
+        self.visited += u64::from(seen);
         if self.closer(rank / 4096, octant) {
             self.distance = rank / 4096;
-            self.octant = octant;
-            self.row = (rank % 4096) as u32;
+            self.octant = u64::from(octant);
+            self.row = rank % 4096;
         }
     }
 }

@@ -5,14 +5,13 @@ ghost use Rattle.words.specs.Rows.{octant_limit};
 ghost use Rattle.traversal.specs.Search.{own_search};
 ghost use Rattle.traversal.specs.Steps.{SearchReady};
 ghost use Rattle.near_path.specs.Best.{rank_of, bests};
-ghost use Rattle.near_path.specs.Steps.{search_in, search_after, Measured};
+ghost use Rattle.near_path.specs.Steps.{search_in, search_after};
 
 use crate::best::Search;
 use colour::distance::squared;
 use colour::{Probe, wrapped};
-use traversal::octant::most;
-use traversal::rows::{Run, rows_from};
-use words::layout::{colour as colour_of, octant_first};
+use traversal::rows::own_rows;
+use words::layout::colour as colour_of;
 use words::tables::Tables;
 
 // The rank of the sample in a row: by how far, and then by row.
@@ -23,24 +22,7 @@ fn rank(samples: &[u32], p: Probe, row: usize) -> u64
     squared(p.centre, wrapped(colour_of(samples, row))) * 4096 + (row as u64)
 }
 
-// Goes through count samples at most, from row first on. The least rank needs no branch.
-fn measure(samples: &[u32], p: Probe, first: u32, count: u32) -> Run<u64>
-    ensures { Measured samples.now p first count result }
-{
-    let mut seen: u32 = 0;
-    let mut best = u64::MAX;
-    for row in rows_from(samples, first, count) {
-        seen += 1;
-        let found = rank(samples, p, row);
-        best = best.min(found);
-    }
-    Run {
-        gathered: best,
-        seen,
-    }
-}
-
-// An entered octant's own samples. (`SearchReady` is of tables and search, and so is a field of neither.)
+// An entered octant's own samples: the least rank needs no branch. (`SearchReady` is of tables and search, and so is a field of neither.)
 pub fn own(tables: &Tables<'_>, p: Probe, octant: u32, search: &mut Search)
     requires ready { SearchReady tables.now.samples.now tables.now.octants.now (search_in search.old) }
     requires octant_bound { octant < octant_limit current tables.now.octants.now }
@@ -48,8 +30,12 @@ pub fn own(tables: &Tables<'_>, p: Probe, octant: u32, search: &mut Search)
         ≡ search_after (own_search (bests tables.now.samples.now p) tables.now.samples.now tables.now.octants.now octant)
         search.old }
 {
-    let count = most(tables, octant, search.visited as u32);
-    let first = octant_first(tables.octants, octant);
-    let run = measure(tables.samples, p, first, count);
-    search.take(octant, run.gathered, run.seen);
+    let mut seen: u32 = 0;
+    let mut best = u64::MAX;
+    for row in own_rows(tables, octant, search.visited as u32) {
+        seen += 1;
+        let found = rank(tables.samples, p, row);
+        best = best.min(found);
+    }
+    search.take(octant, best, seen);
 }

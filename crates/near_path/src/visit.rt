@@ -1,11 +1,11 @@
 // The search: it recurses through octants, the depth left falling, and takes the closest child first. Its siblings are looked at once it is done: most are
 // then too far.
-ghost use Rattle.std.specs.Prelude.{◌≤◌, ◌<◌, ◌≡◌};
+ghost use Rattle.std.specs.Prelude.{◌*◌, ◌≤◌, ◌<◌, ◌≡◌};
 ghost use Rattle.model.specs.Layout.{current};
 ghost use Rattle.words.specs.Rows.{octant_limit};
 ghost use Rattle.traversal.specs.Steps.{SearchReady};
 ghost use Rattle.traversal.specs.Spot.{Stood, Forked, search_at, siblings_at, split_at};
-ghost use Rattle.near_path.specs.Best.{bests, best_of, best_found};
+ghost use Rattle.near_path.specs.Best.{bests, best_of, best_found, found_if};
 ghost use Rattle.near_path.specs.Steps.{search_after, search_in};
 
 use crate::best::{Best, Search};
@@ -13,7 +13,7 @@ use crate::leaf::own;
 use colour::Probe;
 use colour::distance::square;
 use traversal::children::children_in;
-use traversal::nearby::{far_of, sum_by, turns};
+use traversal::nearby::{far_of, turns};
 use traversal::octant::{child_at, ends};
 use traversal::spot::{Fork, Spot, closest_spot, fork_of, parent_at, root_spot, sibling_spot};
 use words::layout::{sample_rows, tag as tag_of};
@@ -33,7 +33,7 @@ fn siblings(tables: &Tables<'_>, p: Probe, row: u32, spot: Spot, fork: Fork, sea
     for turn in children_in(turns(search.distance, spot.near, far)) {
         let next = child_at(tables.octants, row, fork.first ^ turn);
         let to = sibling_spot(p, spot, fork, far, turn);
-        if search.reaches(next, limit, sum_by(to.near)) {
+        if search.reaches(next, limit, to.near.sum()) {
             visit(tables, p, next, to, search);
         }
     }
@@ -52,7 +52,7 @@ fn split(tables: &Tables<'_>, p: Probe, row: u32, spot: Spot, search: &mut Searc
     let fork = fork_of(p, spot.cube);
     let next = child_at(tables.octants, row, fork.first);
     let to = closest_spot(p, spot, fork);
-    if search.reaches(next, tables.octant_limit(), sum_by(to.near)) {
+    if search.reaches(next, tables.octant_limit(), to.near.sum()) {
         visit(tables, p, next, to, search);
     }
     siblings(tables, p, row, spot, fork, search);
@@ -76,32 +76,36 @@ fn visit(tables: &Tables<'_>, p: Probe, row: u32, spot: Spot, search: &mut Searc
     split(tables, p, row, spot, search);
 }
 
-// What is found, with its tag. The row is tested before it is read.
-fn best_of(samples: &[u32], search: &Search) -> Best
-    ensures { result ≡ best_of samples.now (search_in search.now).kept }
+// What is found, with its tag: nothing, if the closest is still at the limit. The row is tested before it is read.
+fn best_of(samples: &[u32], search: &Search, limit: u64) -> Option<Best>
+    ensures { result ≡ found_if limit (best_of samples.now (search_in search.now).kept) }
 {
+    if limit <= search.distance {
+        return None;
+    }
     let row = search.row as usize;
     if row < sample_rows(samples.len()) {
-        return Best {
+        return Some(Best {
             distance: search.distance,
-            row: search.row,
+            row: row as u32,
             tag: tag_of(samples, row),
-        };
+        });
     }
-    Best {
+    Some(Best {
         distance: search.distance,
         row: 0,
         tag: 0,
-    }
+    })
 }
 
 // Nearest over codes: the root is entered if it is there.
-pub fn nearest(tables: &Tables<'_>, p: Probe, radius: u32) -> Best
-    ensures { result ≡ best_found tables.now.samples.now tables.now.octants.now p radius }
+pub fn nearest(tables: &Tables<'_>, p: Probe, radius: u32) -> Option<Best>
+    ensures { result ≡ found_if (radius * radius) (best_found tables.now.samples.now tables.now.octants.now p radius) }
 {
-    let mut search = Search::new(square(radius));
+    let limit = square(radius);
+    let mut search = Search::new(limit);
     if 0 < tables.octant_limit() {
         visit(tables, p, 0, root_spot(p), &mut search);
     }
-    best_of(tables.samples, &search)
+    best_of(tables.samples, &search, limit)
 }

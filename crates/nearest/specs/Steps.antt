@@ -1,13 +1,8 @@
 -- What the functions under nearest ask and promise. No call's own promise cites these.
-use Rattle.std.specs.Prelude.{ℕ, ◌≤◌, ◌<◌, List, ◌≡◌, length}
-use Rattle.colour.specs.Channels.{Colour}
+use Rattle.std.specs.Prelude.{ℕ, ◌≤◌, ◌<◌, List}
 use Rattle.model.specs.Layout.{current}
 use Rattle.words.specs.Rows.{octant_limit, sample_budget}
-use Rattle.traversal.specs.declared.rows.Run.{Run}
-use Rattle.traversal.specs.Own.{rows_from}
-use Rattle.nearest.specs.declared.best.Best.{Best}
 use Rattle.nearest.specs.declared.search.Search.{Search}
-use Rattle.nearest.specs.Search.{measure_rows}
 
 -- A search within a budget of samples and a limit of octants.
 pub record SearchWithin (budget limit : ℕ) (s : Search) : Type 0 where
@@ -18,8 +13,3 @@ pub record SearchWithin (budget limit : ℕ) (s : Search) : Type 0 where
 pub record Ready (ws os : List ℕ) (s : Search) : Type 0 where
   pub small : octant_limit current os < 4294967296
   pub limits : SearchWithin (sample_budget current ws) (octant_limit current os) s
-
--- A run of samples was measured.
-pub record Measured (ws : List ℕ) (c : Colour) (octant first count : ℕ) (best : Best) (r : Run Best) : Type 0 where
-  pub best_is : r.gathered ≡ measure_rows ws c octant best (rows_from ws count first)
-  pub seen : r.seen ≡ length (rows_from ws count first)

@@ -27,9 +27,8 @@ fn enter(search: Search) -> Search
     requires { search.entered < 4294967295 }
     ensures { result ≡ search_entering search }
 {
-    let best = search.best;
     Search {
-        best,
+        best: search.best,
         entered: search.entered + 1,
         visited: search.visited,
     }
@@ -43,8 +42,7 @@ fn reaches(search: Search, row: u32, limit: u32, gaps: Channels<Halves>, k: u32)
         ≡ ((ltb 0 row && ltb row limit) && (ltb search.entered limit && closer search.best (closest_by gaps k) row)) }
 {
     if ((0 < row) & (row < limit)) & (search.entered < limit) {
-        let best = search.best;
-        return closer(best, closest_by(gaps, k), row);
+        return closer(search.best, closest_by(gaps, k), row);
     }
     false
 }
@@ -97,10 +95,7 @@ pub fn nearest(tables: &Tables<'_>, centre: Codes, radius: u32) -> Best
 {
     let none = start(radius);
     if tables.octant_limit() == 0 {
-        let best = none.best;
-        return best;
+        return none.best;
     }
-    let found = visit(tables, &centre, 0, root(), none);
-    let best = found.best;
-    best
+    visit(tables, &centre, 0, root(), none).best
 }

@@ -7,3 +7,4 @@ pub mod Nearby
 pub mod Sound
 pub mod Search
 pub mod Kept
+pub mod Tests

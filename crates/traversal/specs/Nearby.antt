@@ -1,11 +1,11 @@
 -- How far the children of an octant are from a probe, channel by channel.
-use Rattle.std.specs.Prelude.{ℕ, zero, suc, ◌+◌, ◌-◌, ◌*◌, ◌/◌, ◌%◌, ◌≤◌, Bool, true, false, ◌&&◌, leb, ltb}
+use Rattle.std.specs.Prelude.{ℕ, ◌+◌, ◌-◌, ◌*◌, ◌/◌, ◌%◌, ◌≤◌, Bool, true, false, ◌&&◌, leb, ltb}
 use Rattle.colour.specs.Channels.{Colour}
 use Rattle.colour.specs.declared.Probe.{Probe}
 use Rattle.traversal.specs.Squares.{Squares}
 use Rattle.colour.specs.Colour.{Channel, code_in, sum_of}
 use Rattle.colour.specs.Octant.{bit_weight, children}
-use Rattle.colour.specs.Mask.{mask_of}
+use Rattle.colour.specs.Mask.{by_bit, mask_of}
 use Rattle.colour.specs.Steps.{closest_square}
 
 -- The square of one channel, and squares by channel.
@@ -35,11 +35,6 @@ far_square x middle = far_gap x middle * far_gap x middle
 -- What the far halves of an octant at low, whose children have side s, add.
 unfoldable pub far_of : Probe → ℕ → Colour → Squares
 far_of p s low = squares_by (λ h. far_square (code_in h p.centre) (code_in h low + s))
-
--- The first if a bit is 0, else the second.
-unfoldable pub by_bit : ℕ → ℕ → ℕ → ℕ
-by_bit zero near far = near
-by_bit (suc b) near far = far
 
 -- At turn m: the far half in the channels of the bits of m, and the near half, which is as far as the whole octant, in the others.
 unfoldable pub turned_by : Squares → Squares → ℕ → Squares

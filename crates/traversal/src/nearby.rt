@@ -2,23 +2,15 @@
 // far as the whole octant, and the other, the far half, lies across the middle. So the eight children share six squares, and three are the octant's own.
 ghost use Rattle.std.specs.Prelude.{suc, ◌+◌, ◌<◌, ◌≤◌, ◌≡◌, leb};
 ghost use Rattle.colour.specs.Mask.{bit_if};
-ghost use Rattle.traversal.specs.Nearby.{sum_by, far_square, far_of, by_bit, turned_by, turn_mask, NearFar, SmallSquares};
+ghost use Rattle.traversal.specs.Nearby.{far_square, far_of, turned_by, turn_mask, NearFar};
 
 use colour::distance::square;
-use colour::mask::bit_if;
+use colour::mask::{bit_if, by_bit};
 use colour::octant::Parent;
 use colour::{Channels, Probe};
 
 // What each channel adds to a d².
 pub type Squares = Channels<u64>;
-
-// Their sum.
-pub fn sum_by(v: Squares) -> u64
-    requires { SmallSquares v }
-    ensures { result ≡ sum_by v }
-{
-    v.red + v.green + v.blue
-}
 
 // The square of how far a code is from the far half.
 fn far_square(x: u16, middle: u32) -> u64
@@ -40,18 +32,9 @@ pub fn far_of(p: Probe, parent: Parent) -> Squares
 {
     let low = parent.cube.low;
     let half = parent.half;
-    Squares {
-        red: far_square(p.centre.red, low.red + half),
-        green: far_square(p.centre.green, low.green + half),
-        blue: far_square(p.centre.blue, low.blue + half),
-    }
-}
-
-// The first if a bit is 0, else the second.
-fn by_bit(bit: u32, near: u64, far: u64) -> u64
-    ensures { result ≡ by_bit bit near far }
-{
-    if bit == 0 { near } else { far }
+    p.centre
+        .zip(low)
+        .map(|(x, from)| far_square(x, from + half))
 }
 
 // At turn m: the far half in the channels of the bits of m.
@@ -65,7 +48,8 @@ pub fn turned(near: Squares, far: Squares, m: u32) -> Squares
     }
 }
 
-// The weight if three squares add up to no more than the most, else 0.
+// The weight if three squares add up to no more than the most, else 0. (Not one with the bits of `colour::overlap`: a limit one past the most may not fit
+// 64 bits, nor these squares 32, and of eight children one is left out; a shared mask would be lent the sum, the test and the first child.)
 fn within(red: u64, green: u64, blue: u64, most: u64, weight: u32) -> u32
     requires { (red ≤ 4294967296) × ((green ≤ 4294967296) × (blue ≤ 4294967296)) }
     ensures is { result ≡ bit_if (leb (red + green + blue) most) weight }
@@ -96,7 +80,7 @@ pub fn turns(most: u64, near: Squares, far: Squares) -> u32
     let rise = (far.red - near.red)
         .min(far.green - near.green)
         .min(far.blue - near.blue);
-    if most < near.red + near.green + near.blue + rise {
+    if most < near.sum() + rise {
         return 0;
     }
     turns_within(most, near, far)

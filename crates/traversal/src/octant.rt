@@ -5,11 +5,9 @@ ghost use Rattle.words.specs.Rows.{settings_in, octant_field, sample_budget};
 ghost use Rattle.traversal.specs.Own.{own_most, ends_at};
 ghost use Rattle.traversal.specs.Children.{child_at};
 
+use colour::octant::DEPTHS;
 use words::layout::{octant_child, octant_count, settings as settings_of};
 use words::tables::Tables;
-
-// The depth of an octant of side 1.
-const DEPTHS: u32 = 16;
 
 // As many samples as the octant in a row counts, and as may still be visited.
 pub fn most(tables: &Tables<'_>, row: u32, visited: u32) -> u32
@@ -37,8 +35,8 @@ pub fn ends(tables: &Tables<'_>, whole: bool, depth: u32, row: u32) -> bool
     octant_count(tables.octants, row) <= settings.bucket
 }
 
-// The row of child k, or 0 for none, as the table's word is. A search by path asks for children here. (No Option: at each use the row is compared with 0
-// and with the limit at once.)
+// The row of child k, or 0 for none, as the table's word is. (No Option: at each use the row is compared with 0 and with the limit at once.) A search by
+// path asks for children here and nowhere else: rows without child words, as docs/SEARCH-BY-PATH.md means, would change this function alone.
 pub fn child_at(octants: &[u32], row: u32, k: u32) -> u32
     requires { (row < octant_rows current (length octants.now)) × (k < 8) }
     ensures { result ≡ child_at octants.now row k }

@@ -1,10 +1,13 @@
 // The rows of a run of samples, by their next words. Nothing is trusted: a row is tested before it is given, and no more are given than asked for.
-ghost use Rattle.std.specs.Prelude.{◌≡◌, length};
+ghost use Rattle.std.specs.Prelude.{◌≡◌, ◌<◌, ◌≤◌, length};
 ghost use Rattle.std.specs.Iterator.{YieldsFirst, item_count};
-ghost use Rattle.model.specs.Layout.{current, sample_rows};
-ghost use Rattle.traversal.specs.Own.{rows_from};
+ghost use Rattle.model.specs.Layout.{current, octant_rows, sample_rows};
+ghost use Rattle.words.specs.Rows.{sample_budget};
+ghost use Rattle.traversal.specs.Own.{rows_from, own_rows};
 
-use words::layout::{next as next_of, sample_rows};
+use crate::octant::most;
+use words::layout::{next as next_of, octant_first, sample_rows};
+use words::tables::Tables;
 
 // What is left of a run: so many rows at most, from a row on. (How many the table has is worked out once.)
 #[derive(Drop)]
@@ -26,6 +29,18 @@ pub fn rows_from<'a>(samples: &'a [u32], first: u32, count: u32) -> Rows<'a>
         row: first as usize,
         left: count,
     }
+}
+
+// An octant's own samples: as many as it counts, and as may still be visited.
+#[tactic(auto, unfolding(crate::specs::Own::own_rows))]
+pub fn own_rows<'a>(tables: &Tables<'a>, row: u32, visited: u32) -> Rows<'a>
+    requires row_bound { row < octant_rows current (length tables.now.octants.now) }
+    requires visited_bound { visited ≤ sample_budget current tables.now.samples.now }
+    ensures { rows_from result.samples.now result.left result.row
+        ≡ own_rows tables.now.samples.now tables.now.octants.now row visited }
+{
+    let first = octant_first(tables.octants, row);
+    rows_from(tables.samples, first, most(tables, row, visited))
 }
 
 impl<'a> Iterator for Rows<'a> {

@@ -1,11 +1,11 @@
 -- What is true of the three channels, stated once over the channel, so that no other law is copied three times.
 use Prim.Native.Nat.{ℕ, ◌+◌, ◌≤◌, ◌<◌}
 use mathlib.Core.Bool.{Bool, true, false, ◌&&◌, and-false, and-eq-true_iff}
-use mathlib.Core.Path.{◌≡◌, refl, sym}
+use mathlib.Core.Path.{◌≡◌, refl}
 use mathlib.Core.Logic.{◌↔◌}
 use native.Mathlib.Omega.{arith}
 use lib.Dec.{leb, ltb}
-use borrow.Author.Tests.{ltb-true, leb-true, lt-ltb, le-leb, lt-leb}
+use borrow.Author.Tests.{ltb-true, leb-true, lt-ltb, le-leb}
 use Rattle.colour.specs.Channels.{Colour}
 use Rattle.colour.specs.Colour.{Channel, Red, Green, Blue, code_in, colour_by, each, sum_of, is_code, codes_fit, wrapped, InRange}
 use Rattle.colour.specs.Octant.{cube_holds}
@@ -25,15 +25,6 @@ unfolding each
 each_no f Red e = rw e
 each_no f Green e = rw (e, and-false (f Red))
 each_no f Blue e = rw (e, and-false (f Red && f Green))
-
--- An order in each channel, tested in turn: one that says no settles it, and where two say yes the third does.
-module _ (f g : Channel → ℕ) where
-  pub turn_no : (h : Channel) → g h < f h → false ≡ each (λ h. leb (f h) (g h))
-  turn_no h e = sym (each_no (λ h. leb (f h) (g h)) h (lt-leb (f h) (g h) e))
-
-  pub turn_last : f Red ≤ g Red → f Green ≤ g Green → leb (f Blue) (g Blue) ≡ each (λ h. leb (f h) (g h))
-  unfolding each
-  turn_last r s = rw (le-leb (f Red) (g Red) r, le-leb (f Green) (g Green) s)
 
 -- Tests that agree in every channel agree in each.
 pub each_same : (f g : Channel → Bool) → ((h : Channel) → f h ≡ g h) → each f ≡ each g

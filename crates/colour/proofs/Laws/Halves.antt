@@ -14,8 +14,8 @@ use Rattle.colour.specs.declared.overlap.Halves.{Halves}
 use Rattle.colour.specs.Colour.{Channel, Red, Green, Blue, code_in, each, sum_of, apart, distance}
 use Rattle.colour.specs.Octant.{bit_weight, children, child_low}
 use Rattle.colour.specs.Region.{closest, overlaps}
-use Rattle.colour.specs.Mask.{bit_if, mask_of, overlap_mask}
-use Rattle.colour.specs.Steps.{closest_square, noes, missed, share, limit_of, halves_of, half_at, of_channel, child_sum, child_below}
+use Rattle.colour.specs.Mask.{bit_if, by_bit, mask_of, overlap_mask}
+use Rattle.colour.specs.Steps.{closest_square, noes, missed, share, limit_of, halves_of, half_at, of_channel, child_sum, child_below, Small}
 use Rattle.colour.proofs.Laws.Channels.{sum_same, code_by}
 use Rattle.colour.proofs.Laws.Octants.{child_code}
 use Rattle.colour.proofs.Laws.Mask.{mask_same}
@@ -45,6 +45,18 @@ pub overlaps_shares : (R : Region) (s : ℕ) (low : Colour) → overlaps R s low
 unfolding overlaps share limit_of missed
 overlaps_shares (Ball c r) s low = ap (λ (n : ℕ). ltb n (r * r)) (closest_shares c s low)
 overlaps_shares (Box a b) s low = each_noes _
+
+-- The half of a bit is picked by it.
+pub half_by : (v : Halves) (bit : ℕ) → by_bit bit v.lower v.upper ≡ half_at v bit
+unfolding half_at by_bit
+half_by v zero = refl
+half_by v (suc b) = refl
+
+-- It is small where both are.
+pub half_small : (v : Halves) → Small v → (bit : ℕ) → by_bit bit v.lower v.upper ≤ 4294836225
+unfolding by_bit
+half_small v s zero = s.lower
+half_small v s (suc b) = s.upper
 
 -- The half of a bit starts at low, or s above it.
 half_at_lem : (f : ℕ → ℕ → ℕ) (s low n : ℕ) → half_at (halves_of f s low) (n % 2) ≡ f s (low + n % 2 * s)
@@ -101,11 +113,7 @@ pub noes_most : (b : Bool) → bool_byte (not b) ≤ 1
 noes_most true = omega arith
 noes_most false = omega arith
 
--- A bit by a test that is known.
-pub bit_yes : {t : Bool} (w : ℕ) → t ≡ true → w ≡ bit_if t w
-unfolding bit_if
-bit_yes w e = sym (ap (λ (t : Bool). bit_if t w) e)
-
+-- No bit, by a test that is known.
 pub bit_no : {t : Bool} (w : ℕ) → t ≡ false → 0 ≡ bit_if t w
 unfolding bit_if
 bit_no w e = sym (ap (λ (t : Bool). bit_if t w) e)

@@ -29,9 +29,10 @@ use Rattle.traversal.proofs.Laws.Kept.Labels.{Label, Rising, rising_lower, label
 use Rattle.traversal.proofs.Laws.Kept.Folds.{measured}
 use Rattle.traversal.proofs.Laws.Kept.Searched.{search_kept}
 use Rattle.near_path.specs.declared.best.Best.{Best}
-use Rattle.near_path.specs.Best.{Kept, closer, bests, unfound, search_best, best_of, best_found, best_answer}
+use Rattle.near_path.specs.Best.{Kept, closer, bests, unfound, search_best, best_of, best_found, best_answer, found_if, answer_of}
 use Rattle.near_path.proofs.Laws.Closer.{new_best, closer_yes, closer_no, taken_yes, taken_no, best_takes}
 use Rattle.near_path.proofs.Laws.Least.{best_owns}
+use Rattle.near_path.proofs.Laws.Limits.{answer_is}
 
 -- A sample that is found.
 unfoldable pub best_at : Probe → Placed → Best
@@ -150,6 +151,10 @@ module _ (ws os : List ℕ) (m : Machine) (shows : Shows current m (pair ws os))
   unfolding nearest
   search_nearest left =
       ap (λ (x : Best). best_answer (r * r) x left) found_is ∙ answered (nearest p.centre r m.set) left (nearest_says p.centre (r * r) (order m.set))
+
+  -- And so is what is found.
+  pub found_nearest : (left : List ℕ) → answer_of (found_if (r * r) (best_found ws os p r)) left ≡ found_answer p.centre (nearest p.centre r m.set) left
+  found_nearest left = answer_is (r * r) (best_found ws os p r) left ∙ search_nearest left
 
 -- On any words at all it enters no more octants and visits no more samples than the tables count and have.
 pub search_best_within : (ws os : List ℕ) (p : Probe) (r : ℕ) → SearchWithin (sample_budget current ws) (octant_limit current os) (search_best ws os p r)

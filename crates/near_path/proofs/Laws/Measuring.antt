@@ -12,38 +12,36 @@ use Rattle.colour.specs.Colour.{wrapped}
 use Rattle.colour.specs.Probe.{Fine}
 use Rattle.colour.proofs.Laws.Channels.{fit, wrapped_range}
 use Rattle.colour.proofs.Laws.Distance.{distance_bound}
-use Rattle.model.specs.Layout.{First, Next, current, sample_rows}
-use Rattle.words.specs.Rows.{octant_field, sample_field, sample_in}
+use Rattle.model.specs.Layout.{Next, current, sample_rows}
+use Rattle.words.specs.Rows.{sample_field, sample_in}
 use Rattle.words.proofs.Laws.Layout.Places.{rows_few}
-use Rattle.traversal.specs.Own.{rows_from, own_most, own_rows}
+use Rattle.traversal.specs.Own.{rows_from, own_rows}
 use Rattle.traversal.specs.Search.{Searching, own_search}
 use Rattle.traversal.proofs.Laws.Sound.Each.{All}
-use Rattle.traversal.proofs.Laws.Rows as Rows
-use Rattle.traversal.specs.declared.rows.Run.{Run}
 use Rattle.near_path.specs.Best.{Kept, rank_of, least_from, least_rank, top_rank, taken_rank, own_best, bests}
-use Rattle.near_path.specs.Steps.{Measured, search_ranked}
+use Rattle.near_path.specs.Steps.{search_ranked}
 
-module _ (ws : List ℕ) (p : Probe) (first count : ℕ) where
-  -- What was measured, and the rows that are still to come, is the whole run.
+module _ (ws : List ℕ) (p : Probe) (rows : List ℕ) where
+  -- What was measured, and the rows that are still to come, are all of them.
   pub record Measuring (ahead : List ℕ) (seen best : ℕ) : Type 0 where
-    pub least : least_from ws p best ahead ≡ least_from ws p top_rank (rows_from ws count first)
-    pub passed : seen + length ahead ≡ length (rows_from ws count first)
+    pub least : least_from ws p best ahead ≡ least_from ws p top_rank rows
+    pub passed : seen + length ahead ≡ length rows
 
-  pub measuring_begins : {ahead : List ℕ} → ahead ≡ rows_from ws count first → Measuring ahead 0 18446744073709551615
+  pub measuring_begins : {ahead : List ℕ} → ahead ≡ rows → Measuring ahead 0 18446744073709551615
   unfolding top_rank
   measuring_begins e = rw e (record { least = refl; passed = omega arith })
 
   module _ {ahead : List ℕ} {seen best : ℕ} (g : Measuring ahead seen best) where
     -- Nothing is left.
-    pub measuring_ends : ahead ≡ [] → Measured ws p first count (record { gathered = best; seen = seen })
+    pub measuring_ends : ahead ≡ [] → (best ≡ least_from ws p top_rank rows) × (seen ≡ length rows)
     unfolding least_from
-    measuring_ends e = record { least = rw e at g.least; seen = omega (arith, rw e at g.passed) }
+    measuring_ends e = (rw e at g.least, omega (arith, rw e at g.passed))
 
     -- One sample more.
     module _ {row : ℕ} {ahead' : List ℕ} (step : ahead ≡ row ∷ ahead') where
-      -- It is within the count.
-      pub more : seen < count
-      more = omega (arith, g.passed, ap length step, Rows.rows_few ws count first)
+      -- It is one of them.
+      pub more : seen < length rows
+      more = omega (arith, g.passed, ap length step)
 
       pub one_more : {rank best' : ℕ} → rank ≡ rank_of ws p row → best' ≡ min best rank → Measuring ahead' (seen + 1) best'
       unfolding least_from
@@ -70,14 +68,14 @@ unfolding least_from least_rank All
 least_top ws p [] r h = refl
 least_top ws p (i ∷ rows) r h = ap (λ (n : ℕ). least_from ws p n rows) (rank_most ws p i r h.0)
 
-module _ (ws os : List ℕ) (p : Probe) (fine : Fine p) (row : ℕ) (s : Searching Kept) (count : ℕ) (run : Run ℕ) {first : ℕ}
-    (starts : first ≡ octant_field current os row First) (most : count ≡ own_most ws os row s.visited) (g : Measured ws p first count run) where
-  rows_are : rows_from ws count first ≡ own_rows ws os row s.visited
+module _ (ws os : List ℕ) (p : Probe) (fine : Fine p) (row : ℕ) (s : Searching Kept) {best seen : ℕ}
+    (g : (best ≡ least_from ws p top_rank (own_rows ws os row s.visited)) × (seen ≡ length (own_rows ws os row s.visited))) where
+  own_small : All (λ i. i < 4096) (own_rows ws os row s.visited)
   unfolding own_rows
-  rows_are = ap₂ (rows_from ws) most starts
+  own_small = rows_small ws _ _
 
-  pub own_ranked : search_ranked row run.gathered run.seen s ≡ own_search (bests ws p) ws os row s
+  pub own_ranked : search_ranked row best seen s ≡ own_search (bests ws p) ws os row s
   unfolding search_ranked own_search own_best
   own_ranked =
       ap₂ (λ (k n : ℕ). record { kept = taken_rank s.kept row k; entered = s.entered; visited = s.visited + n })
-      (g.least ∙ least_top ws p _ fine (rows_small ws count first) ∙ ap (least_rank ws p) rows_are) (g.seen ∙ ap length rows_are)
+      (g.0 ∙ least_top ws p _ fine own_small) g.1

@@ -1,6 +1,6 @@
 -- The closest d² of an octant's children, by what its own channels and its far halves add: the half that a code is in, or closer to, is as far as the
 -- whole stretch, and the other half starts past the middle.
-use Prim.Native.Nat.{ℕ, zero, suc, ◌+◌, ◌-◌, ◌*◌, ◌/◌, ◌%◌, ◌≤◌, ◌<◌}
+use Prim.Native.Nat.{ℕ, zero, suc, ◌+◌, ◌-◌, ◌*◌, ◌/◌, ◌%◌, ◌^◌, ◌≤◌, ◌<◌}
 use mathlib.Core.Bool.{Bool, true, false}
 use mathlib.Core.Path.{◌≡◌, refl, sym, ap, ap₂, ◌∙◌}
 use native.Mathlib.Nat.{zero-add, div-one}
@@ -15,10 +15,10 @@ use Rattle.colour.specs.Colour.{Channel, Red, Green, Blue, code_in, colour_by, s
 use Rattle.colour.specs.Probe.{Fine}
 use Rattle.colour.specs.Octant.{bit_weight, last_code, children, child_low, depths, side_at, root_cube}
 use Rattle.colour.specs.Region.{closest_code, closest}
-use Rattle.colour.specs.Mask.{bit_if, mask_of}
+use Rattle.colour.specs.Mask.{bit_if, by_bit, mask_of}
 use Rattle.colour.specs.Steps.{closest_square}
 use Rattle.colour.specs.Nearby.{closest_child}
-use Rattle.traversal.specs.Nearby.{square_in, squares_by, sum_by, near_of, far_gap, far_square, far_of, by_bit, turned_by, turn_within, turn_mask, NearFar, SmallSquares}
+use Rattle.traversal.specs.Nearby.{square_in, squares_by, sum_by, near_of, far_gap, far_square, far_of, turned_by, turn_within, turn_mask, NearFar, SmallSquares}
 use Rattle.colour.proofs.Laws.Channels.{sum_same}
 use Rattle.colour.proofs.Laws.Octants.{child_code}
 use Rattle.colour.proofs.Laws.Gaps.{closest_low, closest_high, closest_self}
@@ -186,6 +186,14 @@ child_near p s low m some =
     ∙ half_picked (code_in h c) s (code_in h low) bit some (omega arith)
     ∙ sym (ap₂ (by_bit bit) (square_by (λ g. closest_square (code_in g c) (s + s) (code_in g low)) h) (square_by (λ g. far_square (code_in g c) (code_in g low + s)) h)))
 
+-- The three add up to their sum.
+pub sum_is : (v : Squares) → v.red + v.green + v.blue ≡ sum_by v
+unfolding sum_by sum_of square_in
+sum_is v = refl
+
+pub sum_fits : {v : Squares} → SmallSquares v → v.red + v.green + v.blue < 2 ^ 64
+sum_fits s = omega arith
+
 -- d² to an octant's closest colour is their sum.
 pub near_sum : (p : Probe) (s : ℕ) (low : Colour) → sum_by (near_of p s low) ≡ distance p.centre (closest p.centre s low)
 unfolding sum_by near_of
@@ -278,17 +286,6 @@ module _ (most : ℕ) (near far : Squares) where
   pub turn_farther : (m : ℕ) → 1 ≤ m → turn_within most near far m ≡ false → most < sum_by (turned_by near far m)
   unfolding turn_within
   turn_farther m h e = leb-false _ _ (rw (lt-ltb 0 m h) at e)
-
--- By the bit.
-pub by_bit_near : (b near far : ℕ) → b ≡ 0 → near ≡ by_bit b near far
-unfolding by_bit
-by_bit_near zero near far e = refl
-by_bit_near (suc b) near far e = absurd (omega arith)
-
-pub by_bit_far : (b near far : ℕ) → (b ≡ 0 → ⊥) → far ≡ by_bit b near far
-unfolding by_bit
-by_bit_far zero near far e = absurd (e refl)
-by_bit_far (suc b) near far e = refl
 
 -- The channels of a turn.
 pub turned_is : (near far : Squares) (m : ℕ) {red green blue : ℕ} → red ≡ by_bit (m % 2) near.red far.red → green ≡ by_bit (m / 2 % 2) near.green far.green

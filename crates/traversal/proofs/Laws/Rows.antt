@@ -75,3 +75,10 @@ pub given_row : (ws : List ℕ) (n row : ℕ) (s : Rows) → rows_left s ≡ row
 given_row ws n row s e xs t y r u x is steps =
     let turn = YieldsList-turn (YieldsList-from_first (λ x. x) rows_left (rows_from ws n row) e) xs t y r u x is steps in
     omega (arith, turn, rows_in ws n row (length xs) x turn.0)
+
+-- And so is each of an octant's own.
+pub given_own : (ws os : List ℕ) (row visited : ℕ) (s : Rows) → rows_left s ≡ own_rows ws os row visited → (xs : List ℕ) (t : Rows)
+    → Yields (YieldsFirst rows_left) s xs t → (r : Option ℕ) (u : Rows) (x : ℕ) → r ≡ Some x → YieldsFirst rows_left t r u
+    → x < sample_rows current (length ws)
+unfolding own_rows
+given_own ws os row visited s e = given_row ws (own_most ws os row visited) (octant_field current os row First) s e

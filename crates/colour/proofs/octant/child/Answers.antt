@@ -9,11 +9,18 @@ pub returns : goal.returns
 unfolding child_cube child_low colour_by code_in bit_weight
 returns c =
     let p = c.args.parent in
+    let s = c.splits-splits.ensures in
     let both = is_within
     (rw (
       c.child_code.ensures,
       c.child_code-2.ensures,
       c.child_code-3.ensures,
+      s.red.0,
+      s.red.1,
+      s.green.0,
+      s.green.1,
+      s.blue.0,
+      s.blue.1,
       p.halved,
       add-one p.cube.depth,
     ))

@@ -18,6 +18,7 @@ use Rattle.traversal.specs.Search.{Searching, search_entering, own_search}
 use Rattle.traversal.specs.Spot.{Stood, Forked, fork_of, turn_at, siblings_at, split_at}
 use Rattle.traversal.proofs.Laws.Places.{NextChild}
 use Rattle.traversal.proofs.Laws.Cubes.{limit_rows}
+use Rattle.traversal.proofs.Laws.Nearby.{sum_is, sum_fits}
 use Rattle.traversal.proofs.Laws.Search.Keeps.{entering_within, still_ready}
 use Rattle.traversal.proofs.Laws.Search.Spots.{first_small, kid_small, kid_turn, kid_first, far_rising, turn_small}
 use Rattle.traversal.proofs.Laws.Search.Spots.{Told, turn_told, told_barred, told_entered, told_room, told_stood, told_depth, search_own, search_deep, search_split, turn_at_within}
@@ -57,7 +58,7 @@ told : (t : ℕ) (c : siblings-After-reaches t)
     (search_in c.loop-turn.search) c.child_at-next.result c.sibling_spot-to.result c.reaches.result
 told t c =
     turn_told (c.child_at-next.ensures ∙ ap (child_at c.args.tables.now.octants.now c.args.row) (kid_turn c.requires.forked.0 _)) c.sibling_spot-to.ensures
-    c.sum_by.ensures c.octant_limit-limit.ensures (c.reaches.ensures c.args.tables.now.samples.now c.args.p)
+    (c.sum.ensures ∙ sum_is _) c.octant_limit-limit.ensures (c.reaches.ensures c.args.tables.now.samples.now c.args.p)
 
 pub siblings-turns-requires : goal.siblings-turns-requires
 siblings-turns-requires t c = far_rising c.requires.forked.0 (far_is c.args.p _ _ c.args.spot.cube _ c.far_of-far.ensures c.parent_at.ensures.half c.parent_at.ensures.cube)
@@ -73,9 +74,9 @@ siblings-child_at-next-requires t c =
     let f = found t (goal.at.siblings-child_at-next-requires t c).In-Some in
     (limit_rows _ _ c.requires.forked.1, kid_small c.requires.forked.0 _ f.below)
 
-pub siblings-sum_by-requires : goal.siblings-sum_by-requires
-siblings-sum_by-requires t c =
-    subst (λ (x : Spot). SmallSquares x.near) (sym c.sibling_spot-to.ensures) (turn_small c.requires.forked.0 _)
+pub siblings-sum-requires : goal.siblings-sum-requires
+siblings-sum-requires t c =
+    sum_fits (subst (λ (x : Spot). SmallSquares x.near) (sym c.sibling_spot-to.ensures) (turn_small c.requires.forked.0 _))
 
 pub siblings-visit-requires : goal.siblings-visit-requires
 siblings-visit-requires t c =
@@ -112,7 +113,7 @@ closest : (t : ℕ) (c : split-After-reaches t)
 closest t c =
     turn_told
     (c.child_at-next.ensures ∙ ap (child_at c.args.tables.now.octants.now c.args.row) (kid_first (parted c.requires.stood c.fork_of-fork.ensures)))
-    c.closest_spot-to.ensures c.sum_by.ensures c.octant_limit.ensures (c.reaches.ensures c.args.tables.now.samples.now c.args.p)
+    c.closest_spot-to.ensures (c.sum.ensures ∙ sum_is _) c.octant_limit.ensures (c.reaches.ensures c.args.tables.now.samples.now c.args.p)
 
 -- Whether or not it was entered, turn 0 was taken.
 first_turn : (t : ℕ) (c : split-Joined-reaches t)
@@ -132,9 +133,9 @@ pub split-child_at-next-requires : goal.split-child_at-next-requires
 split-child_at-next-requires t c =
     (limit_rows _ _ c.requires.row_bound, first_small (parted c.requires.stood c.fork_of-fork.ensures))
 
-pub split-sum_by-requires : goal.split-sum_by-requires
-split-sum_by-requires t c =
-    subst (λ (x : Spot). SmallSquares x.near) (sym c.closest_spot-to.ensures) (turn_small (parted c.requires.stood c.fork_of-fork.ensures) 0)
+pub split-sum-requires : goal.split-sum-requires
+split-sum-requires t c =
+    sum_fits (subst (λ (x : Spot). SmallSquares x.near) (sym c.closest_spot-to.ensures) (turn_small (parted c.requires.stood c.fork_of-fork.ensures) 0))
 
 pub split-visit-requires : goal.split-visit-requires
 split-visit-requires t c =

@@ -5,12 +5,9 @@ use mathlib.Core.List.{List}
 use mathlib.Core.Path.{◌≡◌, refl, sym, ap, ◌∙◌}
 use native.Mathlib.Omega.{arith}
 use borrow.Author.Tests.{ltb-true, ltb-false}
-use lib.Dec.{leb, ltb}
+use lib.Dec.{ltb}
 use Rattle.colour.specs.Channels.{Colour}
-use Rattle.colour.specs.Colour.{code_in, sum_of, Channel}
-use Rattle.colour.specs.Octant.{children, bit_weight}
-use Rattle.colour.specs.Mask.{bit_if}
-use Rattle.colour.specs.Nearby.{closest_child}
+use Rattle.colour.specs.Octant.{children}
 use Rattle.model.specs.Lists.{joined}
 use Rattle.model.specs.SampleSet.{Placed, part, octants_of}
 use Rattle.model.specs.Tables.{child_row}
@@ -21,19 +18,6 @@ use Rattle.nearest.specs.Turns.{in_turn}
 use Rattle.nearest.proofs.Laws.Labels.{Label, child_labels, labelled_within}
 use Rattle.nearest.proofs.Laws.Folds.{measured, measured_append, measured_swap}
 use Rattle.nearest.proofs.Laws.Turns.{Commute}
-
--- A bit is no more than its weight.
-bit_most : (t : Bool) (w : ℕ) → bit_if t w ≤ w
-unfolding bit_if
-bit_most true w = omega arith
-bit_most false w = omega arith
-
--- The closest child is one of the eight.
-pub closest_child_small : (c : Colour) (s : ℕ) (low : Colour) → closest_child c s low < 8
-unfolding closest_child sum_of bit_weight
-closest_child_small c s low =
-    let past : Channel → Bool = λ h. leb (code_in h low + s) (code_in h c) in
-    omega (arith, bit_most (past Channel.Red) 1, bit_most (past Channel.Green) 2, bit_most (past Channel.Blue) 4)
 
 -- Lists that are measured in turn are measured as one.
 pub turns_measured : (c : Colour) (best : Best) (f : ℕ → List Label) (n : ℕ)

@@ -33,7 +33,8 @@ use Rattle.nearest.proofs.Laws.Labels.{child_labels, labelled_split}
 use Rattle.nearest.proofs.Laws.Folds.{measured}
 use Rattle.nearest.proofs.Laws.Turns.{xor_below, children_turned, total_children}
 use Rattle.nearest.proofs.Laws.Sound.Own.{Stands, Agrees, own_agrees}
-use Rattle.nearest.proofs.Laws.Sound.Children.{closest_child_small, turns_measured, child_measured, children_commute}
+use Rattle.traversal.proofs.Laws.Nearby.{closest_child_small}
+use Rattle.nearest.proofs.Laws.Sound.Children.{turns_measured, child_measured, children_commute}
 use Rattle.nearest.proofs.Laws.Sound.Child.{child_adds}
 
 module _ (ws os : List ℕ) (m : Machine) (shows : Shows current m (pair ws os)) (c : Colour) where

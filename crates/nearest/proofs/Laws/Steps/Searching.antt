@@ -17,37 +17,30 @@ use Rattle.colour.specs.Octant.{depths, side_at, children, child_low, child_cube
 use Rattle.colour.specs.Region.{closest}
 use Rattle.colour.specs.Nearby.{closest_child, gaps_of, closest_by}
 use Rattle.colour.proofs.Laws.Nearby.{closest_by_lem}
-use Rattle.model.specs.Layout.{First, Count, Child, current}
+use Rattle.model.specs.Layout.{Count, Child, current}
 use Rattle.words.specs.Rows.{settings_in, octant_field, octant_limit, sample_budget}
-use Rattle.traversal.specs.Own.{rows_from, own_most, own_rows, ends_at}
+use Rattle.traversal.specs.Own.{own_rows, ends_at}
 use Rattle.traversal.proofs.Laws.Rows.{own_few}
 use Rattle.traversal.proofs.Laws.Cubes.{half_is, child_depth}
 use Rattle.nearest.specs.declared.best.Best.{Best}
 use Rattle.nearest.specs.declared.search.Search.{Search}
-use Rattle.traversal.specs.declared.rows.Run.{Run}
 use Rattle.nearest.specs.Best.{closer}
 use Rattle.nearest.specs.Turns.{in_turn}
 use Rattle.nearest.specs.Search.{measure_rows, search_entering, own_search, reaches, child_search, turn_child, search_of, no_search, search_all}
-use Rattle.nearest.specs.Steps.{Measured, Ready}
+use Rattle.nearest.specs.Steps.{Ready}
 use Rattle.nearest.proofs.Laws.Entered.{turned_off, turned_in}
 use Rattle.nearest.proofs.Laws.Bounds.{reaches_row, entering_within, turns_within, child_within, search_within, no_search_within}
 
--- An octant's own samples, measured by their next words.
-module _ (ws os : List ℕ) (c : Colour) (row : ℕ) (s : Search) (count : ℕ) (run : Run Best) {first : ℕ} (starts : first ≡ octant_field current os row First)
-    (most : count ≡ own_most ws os row s.visited) (g : Measured ws c row first count s.best run) where
-  rows_are : rows_from ws count first ≡ own_rows ws os row s.visited
-  unfolding own_rows
-  rows_are = ap₂ (rows_from ws) most starts
-
+-- An octant's own samples, measured one by one.
+module _ (ws os : List ℕ) (c : Colour) (row : ℕ) (s : Search) {best : Best} {seen : ℕ}
+    (g : (best ≡ measure_rows ws c row s.best (own_rows ws os row s.visited)) × (seen ≡ length (own_rows ws os row s.visited))) where
   -- They are within the budget.
-  pub own_room : s.visited ≤ sample_budget current ws → s.visited + run.seen ≤ sample_budget current ws
-  own_room h = omega (arith, g.seen ∙ ap length rows_are, own_few ws os row s.visited, h)
+  pub own_room : s.visited ≤ sample_budget current ws → s.visited + seen ≤ sample_budget current ws
+  own_room h = omega (arith, g.1, own_few ws os row s.visited, h)
 
-  pub own_measured : record { best = run.gathered; entered = s.entered; visited = s.visited + run.seen } ≡ own_search ws os c row s
+  pub own_measured : record { best = best; entered = s.entered; visited = s.visited + seen } ≡ own_search ws os c row s
   unfolding own_search
-  own_measured =
-      ap₂ (λ (x : Best) (n : ℕ). record { best = x; entered = s.entered; visited = s.visited + n })
-      (g.best_is ∙ ap (measure_rows ws c row s.best) rows_are) (g.seen ∙ ap length rows_are)
+  own_measured = ap₂ (λ (x : Best) (n : ℕ). record { best = x; entered = s.entered; visited = s.visited + n }) g.0 g.1
 
 -- Whether the octant in a row is gone through sample by sample, with so many depths left.
 abbrev pub ends_here : List ℕ → List ℕ → ℕ → ℕ → Bool
