@@ -1,5 +1,6 @@
 -- Records of document 01 from the flat numbers, floats and words of a C call: its arguments, and what it leaves.
-use Rattle.std.specs.Prelude.{Result, ℕ, ◌≤◌, Bool, List, ◌≡◌, eqb, Float}
+use Rattle.std.specs.Prelude.{Result, Ok, Err, ℕ, ◌≤◌, Bool, List, ◌≡◌, eqb, Float}
+use Rattle.colour.specs.declared.Channels.{Channels}
 use Rattle.colour.specs.Channels.{Colour}
 use Rattle.colour.specs.Channels.{PanelColour}
 use Rattle.colour.specs.declared.Sample.{Sample}
@@ -21,6 +22,11 @@ panel_colour_of r g b = record { red = r; green = g; blue = b }
 -- A sample from four numbers.
 abbrev pub sample_of : ℕ → ℕ → ℕ → ℕ → Sample
 sample_of t r g b = record { tag = t; colour = colour_of r g b }
+
+-- The channels that an answer gives, or none of them where it refuses.
+abbrev pub channels_or : {T : Type 0} → Result (Channels T) Refusal → T → Channels T
+channels_or (Ok c) none = c
+channels_or (Err r) none = record { red = none; green = none; blue = none }
 
 -- The answer is the number returned and the three words as the call leaves them.
 abbrev pub codes_left : ℕ → ℕ → ℕ → ℕ → CodesAnswer

@@ -3,6 +3,7 @@
 #![tactic(auto)]
 
 ghost use Rattle.std.specs.Prelude.{ℕ, ◌≤◌, List, [], ◌≡◌};
+ghost use Rattle.colour.specs.Refusal.{answer_number};
 ghost use Rattle.colour.specs.Panel.{floats_to_codes, codes_to_floats};
 ghost use Rattle.sheet.specs.Line.{write_line};
 ghost use Rattle.sheet.specs.Sheet.{name_part};
@@ -10,13 +11,31 @@ ghost use Rattle.model.specs.Tables.{tables_lent, tables_left, tables_read};
 ghost use Rattle.model.specs.Machine.{Clear, Change, Add, Remove, Load, plain, load_answer};
 ghost use Rattle.model.specs.Meets.{Meets, CheckMeets};
 ghost use Rattle.query.specs.Answers.{AskMeets, Bounds};
-ghost use Rattle.hubeltxa.specs.Left.{colour_of, panel_colour_of, sample_of, codes_left, floats_left, line_left, part_left};
+ghost use Rattle.hubeltxa.specs.Left.{channels_or, colour_of, panel_colour_of, sample_of, codes_left, floats_left, line_left, part_left};
 ghost use Rattle.hubeltxa.specs.Left.{list_left, is_yes, near_left, Told, ToldNear};
 
 use colour::refusal::{Refusal, number_of};
-use colour::{Codes, Colour, PanelColour, Query, Sample, Settings};
+use colour::{Channels, Codes, Colour, PanelColour, Query, Sample, Settings};
 use query::answers::Reply;
 use samples::answers::{lines_taken, load_number};
+
+// What a call with three channels answers: the number is returned, and the channels go to the words or floats lent for them.
+fn tell_channels<T: Copy>(
+    channels: Result<Channels<T>, Refusal>,
+    none: T,
+    red: &mut T,
+    green: &mut T,
+    blue: &mut T,
+) -> u32
+    ensures number { result ≡ answer_number channels }
+    ensures left { record { red = red.new; green = green.new; blue = blue.new } ≡ channels_or channels none }
+{
+    let left = channels.unwrap_or(Channels::all(none));
+    *red = left.red;
+    *green = left.green;
+    *blue = left.blue;
+    number_of(channels)
+}
 
 // Floats to codes.
 #[tactic(auto, unfolding(colour::specs::Panel::codes_answer, colour::specs::Colour::black, colour::specs::Colour::colour_by))]
@@ -32,24 +51,11 @@ pub extern "C" fn hbx_codes(
     ensures { codes_left result red_code.new green_code.new blue_code.new
         ≡ floats_to_codes (panel_colour_of red green blue) }
 {
-    match Codes::try_from(PanelColour { red, green, blue }) {
-        Ok(c) => {
-            *red_code = u32::from(c.red);
-            *green_code = u32::from(c.green);
-            *blue_code = u32::from(c.blue);
-            0
-        }
-        Err(refusal) => {
-            *red_code = 0;
-            *green_code = 0;
-            *blue_code = 0;
-            u32::from(refusal)
-        }
-    }
+    let codes = Codes::try_from(PanelColour { red, green, blue });
+    tell_channels(codes.map(Colour::from), 0, red_code, green_code, blue_code)
 }
 
 // Codes to floats.
-#[tactic(auto, unfolding(colour::specs::Panel::floats_answer))]
 #[unsafe(no_mangle)]
 pub extern "C" fn hbx_floats(
     red: u32,
@@ -62,20 +68,8 @@ pub extern "C" fn hbx_floats(
     ensures { floats_left result red_out.new green_out.new blue_out.new
         ≡ codes_to_floats (colour_of red green blue) }
 {
-    match PanelColour::try_from(Colour { red, green, blue }) {
-        Ok(p) => {
-            *red_out = p.red;
-            *green_out = p.green;
-            *blue_out = p.blue;
-            0
-        }
-        Err(refusal) => {
-            *red_out = 0.0;
-            *green_out = 0.0;
-            *blue_out = 0.0;
-            u32::from(refusal)
-        }
-    }
+    let floats = PanelColour::try_from(Colour { red, green, blue });
+    tell_channels(floats, 0.0, red_out, green_out, blue_out)
 }
 
 // A sample from four numbers.

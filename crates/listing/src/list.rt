@@ -17,6 +17,18 @@ pub struct Counts {
     pub measured: u32,
 }
 
+impl From<Tally> for Counts {
+    ghost from_gives = { λ t c. c ≡ record { listed = t.listed; entered = t.entered; measured = t.measured } };
+
+    fn from(tally: Tally) -> Self {
+        Counts {
+            listed: tally.listed,
+            entered: tally.entered,
+            measured: tally.measured,
+        }
+    }
+}
+
 // How many a pass lists. It writes on a word of its own, and so only counts.
 fn how_many(tables: &Tables<'_>, region: Region) -> usize
     ensures { result ≡ length (pass_of tables.now.samples.now tables.now.octants.now region).tags }
@@ -35,11 +47,7 @@ fn write(tables: &Tables<'_>, region: Region, listing: &mut [u32]) -> Counts
 {
     let mut tally = Tally::new();
     pass(tables, &region, listing, &mut tally);
-    Counts {
-        listed: tally.listed,
-        entered: tally.entered,
-        measured: tally.measured,
-    }
+    Counts::from(tally)
 }
 
 // Question 13, and the listing. A listing as long as the samples that a pass may visit holds all, so that one pass does; else it is counted

@@ -6,7 +6,7 @@ use mathlib.Core.Bool.{Bool, true, false}
 use mathlib.Core.List.{List, [], ◌∷◌, ◌++◌}
 use mathlib.Core.Path.{◌≡◌, refl, sym, ap, ◌∙◌}
 use lib.Dec.{eqb}
-use lib.ListN.{length, length-append, drop_of_length-le}
+use lib.ListN.{length, length-append}
 use native.Mathlib.Numerals.{add-one}
 use native.Mathlib.Omega.{arith}
 use borrow.Author.Tests.{eqb-true, eqb-false, ne_eqb}
@@ -81,10 +81,6 @@ total_one i c (suc n) h = go (eqb i n) refl (λ l. total_one i c n l)
     go : (r : Bool) → eqb i n ≡ r → (i < n → total (λ k. if (eqb i k) c) n ≡ c) → total (λ k. if (eqb i k) c) (suc n) ≡ c
     go true e rest = let d : i ≡ n = eqb-true i n e in rw e (omega (arith, none_below i c n (omega arith)))
     go false e rest = let l : i < n = omega (arith, eqb-false i n e) in rw e (omega (arith, rest l))
-
--- A list of no elements is empty.
-pub none_left : {A : Type 0} (xs : List A) → length xs ≡ 0 → xs ≡ []
-none_left xs h = drop_of_length-le xs {i = 0} (omega arith)
 
 -- Weights.
 unfoldable pub weigh : {A : Type 0} → (A → ℕ) → List A → ℕ

@@ -24,14 +24,12 @@ pub enum Reply {
 }
 
 // A listing's answer.
+#[tactic(auto, unfolding(crate::specs::Answers::reply_answer, crate::specs::Answers::of_kind, listing::specs::Answers::listed_answer))]
 pub fn of_listed(listed: Result<Counts, Refusal>) -> Result<Reply, Refusal>
     ensures is { (left : List ℕ) → reply_answer result left ≡ listed_answer listed left }
     ensures kind { of_kind true result ≡ true }
 {
-    match listed {
-        Ok(counts) => Ok(Reply::Listed(counts)),
-        Err(refusal) => Err(refusal),
-    }
+    listed.map(Reply::Listed)
 }
 
 // The answer of a search that began with a limit.

@@ -31,7 +31,7 @@ fn rebuild_tables(
     rebuild(samples, octants, settings, n)
 }
 
-// Rebuilds both tables from the samples in the first n rows: 0, or the number of the first no of 1, 3, 6, 4, 7.
+// Rebuilds both tables from the samples in the first n rows: 0, or the number of the first no of 1, 3, 6, 4, 7. (A number, since C takes no other answer.)
 #[unsafe(no_mangle)]
 pub extern "C" fn hbx_rebuild(
     samples: &mut [u32],

@@ -1,5 +1,5 @@
 // The numbers of a script, each once. Words and floats that a call does not use may be any. Which word says which call stands in
-// `script::Kind` alone.
+// `script::Kind` alone. (They are places in words and no structs: C lends a script and room for its answers as words.)
 
 // How many words and how many floats a step has: which call it is, eight words of arguments, and a length. A tag has two words.
 pub const STEP: usize = 10;

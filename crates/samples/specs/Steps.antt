@@ -4,7 +4,7 @@ use Rattle.std.specs.Prelude.{Option, None, Some, Result}
 use Rattle.colour.specs.declared.Sample.{Sample}
 use Rattle.colour.specs.declared.Settings.{Settings}
 use Rattle.colour.specs.Colour.{codes_fit}
-use Rattle.colour.specs.Question.{asks, first_no}
+use Rattle.colour.specs.Question.{Question, asks, first_no}
 use Rattle.sheet.specs.declared.line.Line.{Line}
 use Rattle.sheet.specs.Sheet.{lines_from}
 use Rattle.model.specs.SampleSet.{octants}
@@ -37,6 +37,10 @@ found_if false row = None
 
 unfoldable pub row_found : ℕ → List Sample → Option ℕ
 row_found t xs = found_if (has_tag t xs) (row_of_tag t xs)
+
+-- 5 and 6 of a tag, where xs are in the set: is it new, and is there a row after theirs?
+unfoldable pub row_questions : ℕ → List Sample → ℕ → List Question
+row_questions t xs rows = asks 5 (not (has_tag t xs)) ∷ asks 6 (not (leb rows (length xs))) ∷ []
 
 -- The samples without the one at a place.
 unfoldable pub without_row : ℕ → List Sample → List Sample

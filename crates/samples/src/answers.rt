@@ -3,7 +3,7 @@
 ghost use Rattle.std.specs.Prelude.{◌≡◌};
 ghost use Rattle.samples.specs.Answers.{loaded_number, loaded_taken, before_lines};
 
-use colour::refusal::Refusal;
+use colour::refusal::{Refusal, number_of};
 
 // Why a load ends early: a refusal, by 1, 2 or 11, or at a line by 12, 5, 6 or 7; and how many lines were taken before.
 #[derive(Clone, Copy, PartialEq, Eq)]
@@ -25,18 +25,12 @@ impl From<Refusal> for Stop {
 pub fn load_number(answer: Result<u32, Stop>) -> u32
     ensures { result ≡ loaded_number answer }
 {
-    match answer {
-        Ok(_) => 0,
-        Err(stop) => u32::from(stop.refusal),
-    }
+    number_of(answer.map_err(|stop| stop.refusal))
 }
 
 // How many lines a load took.
 pub fn lines_taken(answer: Result<u32, Stop>) -> u32
     ensures { result ≡ loaded_taken answer }
 {
-    match answer {
-        Ok(taken) => taken,
-        Err(stop) => stop.taken,
-    }
+    answer.unwrap_or_else(|stop| stop.taken)
 }

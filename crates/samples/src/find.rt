@@ -1,10 +1,13 @@
-// The sample with a tag.
+// The sample with a tag, and the row for a new one.
 ghost use Rattle.std.specs.Prelude.{◌≤◌, ◌≡◌, length};
+ghost use Rattle.colour.specs.Question.{first_no};
+ghost use Rattle.colour.specs.Refusal.{answer_number};
 ghost use Rattle.model.specs.Layout.{current, sample_rows};
 ghost use Rattle.words.specs.Rows.{first_samples};
-ghost use Rattle.samples.specs.Steps.{row_found};
+ghost use Rattle.samples.specs.Steps.{row_found, row_questions};
 
-use words::layout::tag as tag_of;
+use colour::refusal::Refusal;
+use words::layout::{sample_rows, tag as tag_of};
 
 // The row of the sample with a tag among the first n rows, if there is one.
 pub fn row_of(samples: &[u32], n: usize, tag: u32) -> Option<usize>
@@ -17,4 +20,19 @@ pub fn row_of(samples: &[u32], n: usize, tag: u32) -> Option<usize>
         }
     }
     None
+}
+
+// Questions 5 and 6, where the samples in the first n rows are in the set: is a tag new, and is there a row after theirs?
+pub fn row_for(samples: &[u32], n: usize, tag: u32) -> Result<(), Refusal>
+    requires { n ≤ sample_rows current (length samples.now) }
+    ensures { answer_number result
+        ≡ first_no (row_questions tag (first_samples current samples.now n) (sample_rows current (length samples.now))) }
+{
+    if row_of(samples, n, tag).is_some() {
+        return Err(Refusal::KnownTag);
+    }
+    if sample_rows(samples.len()) <= n {
+        return Err(Refusal::NoRow);
+    }
+    Ok(())
 }

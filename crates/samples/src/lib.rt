@@ -9,3 +9,4 @@ pub mod load;
 pub mod rebuild;
 pub mod remove;
 pub mod rows;
+mod sound;

@@ -1,23 +1,22 @@
 // Load: the lines of a sheet, in turn, up to the first refused.
-ghost use Rattle.std.specs.Prelude.{Some, ◌≤◌, ◌≡◌, length};
-ghost use Rattle.sheet.specs.Sheet.{line_start, line_count};
+ghost use Rattle.std.specs.Prelude.{◌≤◌, length};
+ghost use Rattle.sheet.specs.Sheet.{line_start};
 ghost use Rattle.model.specs.Layout.{current, sample_rows};
-ghost use Rattle.model.specs.Tables.{pair, tables_lent, tables_left};
+ghost use Rattle.model.specs.Tables.{tables_lent, tables_left};
 ghost use Rattle.model.specs.Machine.{Change, Load};
-ghost use Rattle.model.specs.Sound.{Sound};
 ghost use Rattle.model.specs.Meets.{Meets};
 ghost use Rattle.samples.specs.Answers.{loaded_answer};
-ghost use Rattle.samples.specs.Steps.{FollowsAll, Acceptable, Longest, Stopped};
+ghost use Rattle.samples.specs.Steps.{Acceptable, Longest, Stopped};
 
 use crate::answers::Stop;
-use crate::find::row_of;
+use crate::find::row_for;
 use crate::rebuild::{acceptable, rebuild};
 use crate::rows::put_lines;
+use crate::sound::sound;
 use colour::Settings;
 use colour::refusal::Refusal;
-use octree::tables::check;
 use sheet::header::{line_at, read_header};
-use words::layout::{count as count_of, long_enough, sample_rows, settings as settings_of};
+use words::layout::{count as count_of, settings as settings_of};
 
 // The most of the first rows, from `low` to `high`, that are a set which fits. As samples are added tags stay known and octants do not
 // get fewer, so halving finds the end; usually all rows fit, and that is asked first. (The loop is by hand: the bounds come to meet from both sides, which
@@ -53,60 +52,28 @@ fn stopped(samples: &[u32], n: usize, sheet: &[u8], lines: usize, taken: usize) 
     if lines <= taken {
         return Ok(so_far);
     }
-    let Ok(line) = line_at(sheet, taken) else {
-        return Err(Stop {
-            refusal: Refusal::Line,
-            taken: so_far,
-        });
-    };
-    let known = row_of(samples, n, line.sample.tag).is_some();
-    let full = sample_rows(samples.len()) <= n;
-    let refusal = if known {
-        Refusal::KnownTag
-    } else if full {
-        Refusal::NoRow
-    } else {
-        Refusal::NoOctants
-    };
-    Err(Stop {
+    let stop = |refusal| Stop {
         refusal,
         taken: so_far,
-    })
+    };
+    let line = line_at(sheet, taken).map_err(stop)?;
+    row_for(samples, n, line.sample.tag).map_err(stop)?;
+    Err(stop(Refusal::NoOctants))
 }
 
-// Takes the lines of a sheet with a good header, on sound tables. All that can be rows become rows, and one tree is built: that of the
-// longest run of them that is a set which fits.
-fn load_lines(
-    samples: &mut [u32],
-    octants: &mut [u32],
-    sheet: &[u8],
-    lines: usize,
-) -> Result<u32, Stop>
-    requires { (Sound current (pair samples.old octants.old)) × (line_count sheet.now ≡ Some lines) }
-    ensures { FollowsAll (Load sheet.now) (tables_lent samples octants)
-        (loaded_answer result) (tables_left samples octants) }
-{
-    let settings = settings_of(samples);
-    let n = count_of(samples) as usize;
-    let put = put_lines(samples, n, sheet, lines);
-    let kept = longest(samples, octants.len(), settings, n, n + put);
-    let taken = kept - n;
-    let answer = stopped(samples, kept, sheet, lines, taken);
-    let _ = rebuild(samples, octants, settings, kept);
-    answer
-}
-
-// Loads a sheet.
+// Loads a sheet: questions 1, 2 and 11, and then its lines. All that can be rows become rows, and one tree is built: that of the longest run of them
+// that is a set which fits.
 pub fn load(samples: &mut [u32], octants: &mut [u32], sheet: &[u8]) -> Result<u32, Stop>
     ensures { Meets (Change (Load sheet.now)) (tables_lent samples octants)
         (loaded_answer result) (tables_left samples octants) }
 {
-    if !long_enough(samples.len(), octants.len()) {
-        return Err(Stop::from(Refusal::TooShort));
-    }
-    if !check(samples, octants) {
-        return Err(Stop::from(Refusal::Unsound));
-    }
+    sound(samples, octants)?;
     let lines = read_header(sheet)?;
-    load_lines(samples, octants, sheet, lines)
+    let settings = settings_of(samples);
+    let n = count_of(samples) as usize;
+    let put = put_lines(samples, n, sheet, lines);
+    let kept = longest(samples, octants.len(), settings, n, n + put);
+    let answer = stopped(samples, kept, sheet, lines, kept - n);
+    let _ = rebuild(samples, octants, settings, kept);
+    answer
 }

@@ -13,7 +13,8 @@ use order::entry::fill;
 use order::tags::all_apart;
 use words::layout::MOST_SAMPLES;
 
-// Writes the tables of the samples whose entries, by arrival, are lent, where they fit.
+// Writes the tables of the samples whose entries, by arrival, are lent, where they fit. (Entries and scratch are two slices: below, a part of the one goes
+// down with all of the other, `order::order`.)
 fn write_fitting(
     samples: &mut [u32],
     octants: &mut [u32],

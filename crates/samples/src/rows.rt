@@ -1,4 +1,5 @@
-// Sample rows that move, and rows that are filled from a sheet's lines.
+// Sample rows that move, and rows that are filled from a sheet's lines. (Each function that reads the first n rows asks that the table has them. It is
+// the bound of an index, and n is another at each call, so that a struct of the table and n would be made anew for each.)
 ghost use Rattle.std.specs.Prelude.{◌-◌, ◌≤◌, ◌<◌, ◌≡◌, length};
 ghost use Rattle.sheet.specs.Sheet.{line_start};
 ghost use Rattle.model.specs.Layout.{current, sample_rows};
@@ -21,6 +22,7 @@ pub fn close_row(samples: &mut [u32], row: usize, n: usize)
 }
 
 // Puts the samples of a sheet's lines in the rows after the first n, up to a line that is not good or finds no row; says how many.
+// (The sheet and its count of lines go together to this and to `load::stopped` alone: a struct of the two would be taken apart in both contracts.)
 pub fn put_lines(samples: &mut [u32], n: usize, sheet: &[u8], lines: usize) -> usize
     requires { (n ≤ sample_rows current (length samples.old)) × (line_start lines ≤ length sheet.now) }
     ensures { LinesPut n samples.old sheet.now lines result samples.new }

@@ -1,4 +1,5 @@
-// Numbers in columns, read and written.
+// Numbers in columns, read and written. (By hand: a column is a lent text of fixed width with blanks at the left, and a number has no sign and no leading
+// zero. `parse` takes texts that are no column, and `Display` writes to what grows; the library has no heap.)
 ghost use Rattle.std.specs.Prelude.{[], ◌∷◌, ◌≡◌, ◌+◌, ◌≤◌, length, take, drop};
 ghost use Rattle.sheet.specs.Column.{digits_after, decimal_in, column_number, column_of};
 ghost use Rattle.sheet.specs.Steps.{within, put_at};

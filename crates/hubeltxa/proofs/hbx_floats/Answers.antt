@@ -1,12 +1,24 @@
--- `hbx_floats`: black's floats are 0.0.
-use mathlib.Core.Path.{sym, ap, ◌∙◌}
+-- `hbx_floats`: what is told is the answer, and black's floats are 0.0.
+use mathlib.Core.Path.{◌≡◌, refl, ap, ◌∙◌}
 use lib.Ieee.{round, of_bits}
-use Prim.Native.Nat.{ℕ}
+use Rattle.std.specs.Prelude.{Float, Result, Ok, Err}
+use Rattle.colour.specs.declared.refusal.Refusal.{Refusal}
+use Rattle.colour.specs.Channels.{PanelColour}
 use Rattle.colour.specs.Colour.{black, colour_by}
-use Rattle.colour.specs.Panel.{floats_answer, shown_colour, shown}
+use Rattle.colour.specs.Refusal.{refusal_number, answer_number}
+use Rattle.colour.specs.Panel.{FloatsAnswer, floats_answer, shown_colour, shown}
+use Rattle.hubeltxa.specs.Left.{channels_or}
 use Rattle.hubeltxa.proofs.hbx_floats.Goals as goal
 
-pub returns-in-Err : goal.returns-in-Err
-unfolding floats_answer shown_colour black colour_by shown round of_bits
-returns-in-Err c =
-    ap (λ (n : ℕ). record { number = n; floats = shown_colour black }) c.from.ensures ∙ sym (ap floats_answer c.in-Err.is) ∙ c.try_from.ensures.0
+told : (r : Result PanelColour Refusal) (none : Float) → none ≡ shown 0
+    → ◌≡◌ {A = FloatsAnswer} (record { number = answer_number r; floats = channels_or r none }) (floats_answer r)
+unfolding floats_answer shown_colour black colour_by
+told (Ok p) none e = refl
+told (Err r) none e =
+    ap (λ (v : Float). record { number = refusal_number r; floats = record { red = v; green = v; blue = v } }) e
+
+pub returns : goal.returns
+unfolding shown round of_bits
+returns c =
+    let t = c.tell_channels.ensures in
+    (λ i. record { number = t.number i; floats = t.left i }) ∙ told c.try_from-floats.result _ refl ∙ c.try_from-floats.ensures.0

@@ -15,7 +15,8 @@ use Rattle.model.specs.SampleSet.{Placed, part, splits, order_of, octants_of}
 use Rattle.model.specs.Layout.{OctantField, First, Last, Count, Child, Layout}
 use Rattle.model.specs.Tables.{first_row, last_row, child_row, row_or_none, child_word, octant_word, octant_rows_of}
 use Rattle.model.proofs.Kept.{keep_all, keep_joined, keep_none, keep_twice, keep_neither, joined_same, joined_one, map_same}
-use Rattle.model.proofs.Lists.{none_left, total_same}
+use Rattle.std.proofs.lemmas.List.{nil_from_length}
+use Rattle.model.proofs.Lists.{total_same}
 use Rattle.model.proofs.Tree.Order.{count, order_of_counts, order_of_length}
 use Rattle.model.proofs.Tree.Octants.{split_some}
 use Rattle.model.proofs.Tree.Splits.{order_leaf, order_split, octants_split, rows_split, some_row}
@@ -23,7 +24,7 @@ use Rattle.model.proofs.Tree.Splits.{order_leaf, order_split, octants_split, row
 -- The order of a part holds samples of that part alone.
 count_none : (p : Placed → Bool) (b j : ℕ) (xs : List Placed) → keep p xs ≡ [] → keep p (order_of b j xs) ≡ []
 unfolding count
-count_none p b j xs e = none_left (keep p (order_of b j xs)) (order_of_counts p b j xs ∙ ap length e)
+count_none p b j xs e = nil_from_length (keep p (order_of b j xs)) (order_of_counts p b j xs ∙ ap length e)
 
 count_all : (p : Placed → Bool) (b j : ℕ) (xs : List Placed) → keep p xs ≡ xs → keep p (order_of b j xs) ≡ order_of b j xs
 unfolding count
@@ -58,7 +59,7 @@ part_order b j k xs e = go (ltb k children) refl
     go false h =
         let none : part j k xs ≡ [] = no_child j k xs (omega (arith, ltb-false k children h)) in
         no_child j k (order_of b (suc j) xs) (omega (arith, ltb-false k children h))
-        ∙ sym (ap (order_of b j) none ∙ none_left (order_of b j []) (order_of_length b j []))
+        ∙ sym (ap (order_of b j) none ∙ nil_from_length (order_of b j []) (order_of_length b j []))
 
 -- An order splits as its octant does.
 order_splits : (b j i : ℕ) (xs : List Placed) → splits b j (order_of b i xs) ≡ splits b j xs

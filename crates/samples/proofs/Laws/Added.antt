@@ -10,10 +10,12 @@ use lib.Dec.{leb, ltb}
 use lib.ListN.{length, get_or}
 use Rattle.colour.specs.declared.Sample.{Sample}
 use Rattle.colour.specs.declared.Settings.{Settings}
+use Rattle.colour.specs.declared.refusal.Refusal.{Refusal}
 use Rattle.colour.specs.declared.refusal.Refusal.TheVariants as R
 use Rattle.colour.specs.Colour.{codes_fit}
 use Rattle.colour.specs.Question.{asks, first_no}
-use Rattle.colour.proofs.Laws.Questions.{first_yes, first_no_lem, alone_yes}
+use Rattle.colour.specs.Refusal.{refusal_number}
+use Rattle.colour.proofs.Laws.Questions.{first_yes, first_no_lem, alone_yes, refusal_numbered}
 use Rattle.model.specs.SampleSet.{octants}
 use Rattle.model.specs.Layout.{current, sample_rows, octant_rows}
 use Rattle.model.specs.Tables.{Tables, pair}
@@ -29,9 +31,10 @@ use Rattle.octree.proofs.Laws.Tables.Check.{sample_length_lem, octant_length_lem
 use Rattle.samples.specs.Answers.{changed_answer}
 use Rattle.std.specs.Prelude.{Ok, Err}
 use Rattle.samples.specs.Rebuilding.{codes_asked, Rebuilt}
-use Rattle.samples.specs.Steps.{FollowsAll, holding, Adding, row_of_tag}
+use Rattle.samples.specs.Steps.{FollowsAll, holding, Adding, row_of_tag, row_questions}
 use Rattle.samples.proofs.Laws.Meets.{refused_follows, accepted_follows}
 use Rattle.samples.proofs.Laws.Rebuilt.{rebuilt_as, rebuilt_room, rebuilt_over}
+use Rattle.samples.proofs.Laws.Tags.{row_asked}
 use Rattle.samples.proofs.Laws.Shown.{said, known_below, rows_octants, rows_tables}
 
 -- The number of an add, by the first question that is answered with no.
@@ -126,6 +129,29 @@ module _ (ws os : List ℕ) (s : Sample) where
                 ∙ le-ltb row n new;
             row = left;
           }
+
+  -- So by what questions 5 and 6 come to for its tag.
+  module _ (codes : codes_fit s.colour ≡ true) (n : ℕ) (counted : n ≡ count_in ws) where
+    abbrev asked : ℕ
+    asked = first_no (row_questions s.tag (samples_from current ws 0 n) (sample_rows current (length ws)))
+
+    pub new_refused : (e : Refusal) → refusal_number e ≡ asked → FollowsAll (Add s) t (changed_answer (Err e)) t
+    unfolding changed_answer
+    new_refused e said =
+        subst (λ (k : ℕ). FollowsAll (Add s) t (plain k []) t) (sym said)
+        (row_asked s.tag n ws (sample_rows current (length ws)) (λ k. (k ≡ 0 → ⊥) → FollowsAll (Add s) t (plain k []) t)
+        (λ known _. tag_refused codes n counted _ refl known)
+        (λ new full _. row_refused codes n counted _ refl new full)
+        (λ _ _ ne. absurd (ne refl))
+        (λ z. refusal_numbered e (said ∙ z)))
+
+    pub new_taken : 0 ≡ asked → Sound current t → Adding s n ws os
+    new_taken said sound =
+        row_asked s.tag n ws (sample_rows current (length ws)) (λ k. k ≡ 0 → Adding s n ws os)
+        (λ _ z. absurd (omega (arith, z)))
+        (λ _ _ z. absurd (omega (arith, z)))
+        (λ new left _. now_adding codes n counted _ refl new sound left)
+        (sym said)
 
 -- The sample in its row, and a rebuild of one row more.
 module _ (s : Sample) (n : ℕ) (ws os : List ℕ) (h : Adding s n ws os) (x : Settings) (settings : x ≡ settings_in current ws) where

@@ -1,17 +1,17 @@
 -- What a call that changes a set meets: question by question, and on sound tables the machine's.
 use Prim.Native.Nat.{ℕ}
-use mathlib.Core.List.{[]}
+use mathlib.Core.List.{[], ◌∷◌}
 use mathlib.Core.Bool.{Bool, true, false, true≢false, false≢true}
 use mathlib.Core.Path.{◌≡◌, refl, sym, ap, ◌∙◌}
 use Rattle.colour.specs.declared.refusal.Refusal.{Refusal}
-use Rattle.colour.specs.Question.{first_no}
-use Rattle.colour.proofs.Laws.Questions.{refusal_numbered}
+use Rattle.colour.specs.Question.{asks, first_no}
+use Rattle.colour.proofs.Laws.Questions.{first_yes, first_no_lem, refusal_numbered}
 use Rattle.model.specs.Layout.{current}
 use Rattle.model.specs.Tables.{Tables}
 use Rattle.model.specs.SampleSet.{SampleSet}
 use Rattle.model.specs.Machine.{Machine, Changing, Change, lent, Answer, Outcome, plain, tables_of, with_set, questions, accepted, refusal, next_state}
 use Rattle.model.specs.Sound.{Sound, long_enough}
-use Rattle.model.specs.Meets.{Refused, TableMeets, Follows}
+use Rattle.model.specs.Meets.{Refused, TableMeets, CheckMeets, Follows}
 use Rattle.model.proofs.Machine.Step.{step_accepted, step_refused}
 use Rattle.octree.proofs.Laws.Tables.Check.{too_short}
 use Rattle.std.specs.Prelude.{Result, Err}
@@ -44,6 +44,18 @@ module _ (c : Changing) (t : Tables) (a : Answer) where
         unsound = λ _ _. record { answer = e; tables = refl };
         sound = λ m s. absurd (never (record { machine = m; shows = s }));
       }
+
+  -- The first no of the two, where the tables are those of no set.
+  pub first_refused : (k : ℕ) → CheckMeets t false → k ≡ first_no (asks 1 (long_enough current t) ∷ asks 2 false ∷ []) → a ≡ plain k (lent (Change c))
+      → TableMeets (Refused 2 (Change c) t a t) (Change c) t a t
+  first_refused k never number told = go (long_enough current t) refl
+    where
+      numbered : (n : ℕ) → first_no (asks 1 (long_enough current t) ∷ asks 2 false ∷ []) ≡ n → a ≡ plain n (lent (Change c))
+      numbered n e = told ∙ ap (λ (i : ℕ). plain i (lent (Change c))) (number ∙ e)
+
+      go : (long : Bool) → long_enough current t ≡ long → TableMeets (Refused 2 (Change c) t a t) (Change c) t a t
+      go true long = unsound_refused long (λ s. true≢false (sym (never.complete s))) (numbered 2 (first_yes 1 _ _ long ∙ first_no_lem 2 false [] refl))
+      go false short = short_refused short (numbered 1 (first_no_lem 1 _ _ short))
 
   -- On sound tables the answer and the tables are the machine's.
   pub sound_follows : (t' : Tables) → Sound current t → FollowsAll c t a t' → TableMeets (Refused 2 (Change c) t a t') (Change c) t a t'

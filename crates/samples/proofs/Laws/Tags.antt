@@ -5,12 +5,13 @@ use mathlib.Core.List.{List, [], ◌∷◌}
 use mathlib.Core.Path.{◌≡◌, refl, sym, ap, ◌∙◌}
 use native.Mathlib.Nat.{sub-zero, zero-add, add-zero}
 use native.Mathlib.Omega.{arith}
-use borrow.Author.Tests.{lt-ltb, le-ltb, ltb-true, ltb-false, eq-eqb, ne_eqb, eqb-true}
+use borrow.Author.Tests.{lt-ltb, le-ltb, ltb-true, ltb-false, leb-true, leb-false, eq-eqb, ne_eqb, eqb-true}
 use Rattle.std.specs.Prelude.{Option, None, Some}
 use Rattle.std.specs.Option.{is_some}
-use lib.Dec.{eqb, ltb, leb-suc-suc}
+use lib.Dec.{eqb, leb, ltb, leb-suc-suc}
 use lib.ListN.{length}
 use Rattle.colour.specs.declared.Sample.{Sample}
+use Rattle.colour.specs.Question.{asks, first_no}
 use Rattle.model.specs.Layout.{current}
 use Rattle.model.specs.Lists.{keep}
 use Rattle.model.specs.Machine.{has_tag}
@@ -18,7 +19,7 @@ use Rattle.model.specs.Sound.{Distinct}
 use Rattle.model.proofs.Machine.Samples.{first_tag}
 use Rattle.words.specs.Rows.{sample_in, samples_from}
 use Rattle.words.proofs.Laws.Layout.Samples.{samples_length}
-use Rattle.samples.specs.Steps.{row_of_tag, row_found, found_if, without_row}
+use Rattle.samples.specs.Steps.{row_of_tag, row_found, found_if, row_questions, without_row}
 
 -- A tag is known exactly where its place is among the samples.
 tag_placed : (t : ℕ) (xs : List Sample) → has_tag t xs ≡ ltb (row_of_tag t xs) (length xs)
@@ -80,15 +81,21 @@ module _ (t n : ℕ) (ws : List ℕ) where
   unfolding row_found
   row_untold e = ltb-false (row_of_tag t xs₀) n (sym in_rows ∙ found_untold (has_tag t xs₀) (row_of_tag t xs₀) e)
 
-  pub row_known : {o : Option ℕ} {known : Bool} → o ≡ row_found t xs₀ → known ≡ is_some o → known ≡ ltb (row_of_tag t xs₀) n
+  pub row_has : {o : Option ℕ} {known : Bool} → o ≡ row_found t xs₀ → known ≡ is_some o → has_tag t xs₀ ≡ known
   unfolding row_found
-  row_known e k = k ∙ ap is_some e ∙ found_known (has_tag t xs₀) (row_of_tag t xs₀) ∙ in_rows
+  row_has e k = sym (k ∙ ap is_some e ∙ found_known (has_tag t xs₀) (row_of_tag t xs₀))
 
-  pub row_is : {o : Option ℕ} {known : Bool} → o ≡ row_found t xs₀ → known ≡ is_some o → known ≡ true → row_of_tag t xs₀ < n
-  row_is e k y = ltb-true (row_of_tag t xs₀) n (sym (row_known e k) ∙ y)
-
-  pub row_is_not : {o : Option ℕ} {known : Bool} → o ≡ row_found t xs₀ → known ≡ is_some o → known ≡ false → n ≤ row_of_tag t xs₀
-  row_is_not e k y = ltb-false (row_of_tag t xs₀) n (sym (row_known e k) ∙ y)
+  -- What questions 5 and 6 come to: 5 where its row is one of the n, else 6 where no row is left, and else 0.
+  pub row_asked : (rows : ℕ) (P : ℕ → Type 0) → (row_of_tag t xs₀ < n → P 5) → (n ≤ row_of_tag t xs₀ → rows ≤ n → P 6)
+      → (n ≤ row_of_tag t xs₀ → n < rows → P 0) → P (first_no (row_questions t xs₀ rows))
+  unfolding row_questions first_no
+  row_asked rows P known full left =
+      rw (in_rows, samples_length ws n 0) (go (ltb (row_of_tag t xs₀) n) (leb rows n) refl refl)
+    where
+      go : (k f : Bool) → ltb (row_of_tag t xs₀) n ≡ k → leb rows n ≡ f → P (first_no (asks 5 (not k) ∷ asks 6 (not f) ∷ []))
+      go true f ek ef = known (ltb-true (row_of_tag t xs₀) n ek)
+      go false true ek ef = full (ltb-false (row_of_tag t xs₀) n ek) (leb-true rows n ef)
+      go false false ek ef = left (ltb-false (row_of_tag t xs₀) n ek) (leb-false rows n ef)
 
 module _ (t : ℕ) where
   -- Whether a sample stays when the tag's is removed.

@@ -18,7 +18,7 @@ use Rattle.model.specs.Tables.{pair}
 use Rattle.model.specs.Queries.{tag_of, Counts, no_counts, listed, visit, counts}
 use Rattle.model.specs.Machine.{Machine}
 use Rattle.model.specs.Sound.{Shows}
-use Rattle.model.proofs.Lists.{none_left}
+use Rattle.std.proofs.lemmas.List.{nil_from_length}
 use Rattle.model.proofs.Tree.Cubes.{Reached, whole}
 use Rattle.model.proofs.Tree.Order.{order_of_length}
 use Rattle.model.proofs.Tree.Octants.{no_octants}
@@ -61,7 +61,7 @@ module _ (ws os : List ℕ) (m : Machine) (shows : Shows current m (pair ws os))
   no_samples : xs ≡ [] → (listed R m.set ≡ []) × (counts R m.set ≡ no_counts)
   unfolding listed order counts keep
   no_samples e = (
-    ap (λ (zs : List Placed). map tag_of (keep (λ x. holds R x.sample.colour) zs)) (ap (order_of b depths) e ∙ none_left (order_of b depths []) (order_of_length b depths [])),
+    ap (λ (zs : List Placed). map tag_of (keep (λ x. holds R x.sample.colour) zs)) (ap (order_of b depths) e ∙ nil_from_length (order_of b depths []) (order_of_length b depths [])),
     ap (visit R b depths black) e ∙ visit_empty R b depths black,
   )
 

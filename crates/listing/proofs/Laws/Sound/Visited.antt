@@ -20,7 +20,7 @@ use Rattle.model.specs.Tables.{pair, child_row, row_or_none, octant_word}
 use Rattle.model.specs.Queries.{Counts, no_counts, visit}
 use Rattle.model.specs.Machine.{Machine}
 use Rattle.model.specs.Sound.{Shows}
-use Rattle.model.proofs.Lists.{none_left}
+use Rattle.std.proofs.lemmas.List.{nil_from_length}
 use Rattle.model.proofs.Tree.Cubes.{below}
 use Rattle.model.proofs.Tree.Order.{order_of_length, parts_length}
 use Rattle.model.proofs.Tree.Splits.{order_split, octants_split, child_within}
@@ -123,7 +123,7 @@ module _ (ws os : List ℕ) (m : Machine) (shows : Shows current m (pair ws os))
             let off : enters os R (2 ^ j) (child_low (2 ^ j) k low) (octant_field current os at (Child k)) u ≡ false = passed_by _ _ _ _ _ _ w (omega arith) in
             subst (Adds k u) (sym (turned_off _ _ _ _ _ _ _ _ off))
             (adds_nothing k u p h
-            (ap (λ (zs : List Placed). tags_in (order_of b j zs)) e ∙ ap tags_in (none_left (order_of b j []) (order_of_length b j [])))
+            (ap (λ (zs : List Placed). tags_in (order_of b j zs)) e ∙ ap tags_in (nil_from_length (order_of b j []) (order_of_length b j [])))
             (ap (visit R b j (child_low (2 ^ j) k low)) e ∙ visit_empty R b j (child_low (2 ^ j) k low)))
 
         some : 1 ≤ length (kid k) → octant_field current os at (Child k) ≡ child_row b j at xs k → (q : Bool)

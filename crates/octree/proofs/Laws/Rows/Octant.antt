@@ -13,7 +13,7 @@ use Rattle.model.specs.Layout.{current, octant_width}
 use Rattle.model.specs.Lists.{joined}
 use Rattle.model.specs.SampleSet.{Placed, order_of, octants_of, part, splits}
 use Rattle.model.specs.Tables.{first_row, last_row, row_or_none, child_word, octant_word, octant_row}
-use Rattle.model.proofs.Lists.{none_left}
+use Rattle.std.proofs.lemmas.List.{nil_from_length}
 use Rattle.model.proofs.Tables.Size.{octant_rows_length}
 use Rattle.model.proofs.Tree.Octants.{no_octants}
 use Rattle.model.proofs.Tree.Ordered.{ordered_parts}
@@ -77,9 +77,9 @@ row_is b left number first last count xs kids held o f l c w =
 -- An octant with no samples comes to no rows.
 pub empty_is : (b left number : ℕ) (es : List ℕ) → length es ≡ 0 → (octants_of b left (view es) ≡ 0) × (rows_of b left number es ≡ [])
 empty_is b left number es e =
-    let none : octants_of b left (view es) ≡ 0 = ap (octants_of b left) (none_left (view es) (view_length es ∙ e)) ∙ no_octants b left in (
+    let none : octants_of b left (view es) ≡ 0 = ap (octants_of b left) (nil_from_length (view es) (view_length es ∙ e)) ∙ no_octants b left in (
       none,
-      none_left (rows_of b left number es)
+      nil_from_length (rows_of b left number es)
           (octant_rows_length current b left number (view es) ∙ ap (λ (n : ℕ). octant_width current * n) none ∙ mul-zero (octant_width current)),
     )
 

@@ -1,36 +1,57 @@
--- `add::add`: questions 1, 2 and 4, then what sound tables tell.
-use mathlib.Core.Bool.{true≢false}
-use mathlib.Core.Path.{refl, sym, ◌∙◌}
-use Rattle.model.specs.Sound.{long_enough}
-use Rattle.model.specs.Machine.{lent}
+-- `add::add`: questions 1 and 2, 4, 5 and 6, then the row.
+use native.Mathlib.Omega.{arith}
+use mathlib.Core.Path.{refl, sym, ap, subst⁻¹, ◌∙◌}
+use Rattle.std.specs.Prelude.{Result}
+use Rattle.colour.specs.declared.refusal.Refusal.{Refusal}
+use Rattle.colour.proofs.Laws.Refused.{passed_on}
+use Rattle.model.specs.Tables.{pair}
+use Rattle.model.specs.Machine.{Add, lent}
 use Rattle.model.specs.Meets.{Meets}
+use Rattle.model.proofs.Tables.Numbers.{current_numbers}
 use Rattle.samples.specs.Answers.{changed_answer}
-use Rattle.samples.proofs.Laws.Added.{codes_refused}
-use Rattle.samples.proofs.Laws.Meets.{short_refused, unsound_refused, sound_follows}
+use Rattle.samples.specs.Steps.{FollowsAll}
+use Rattle.samples.proofs.Laws.Meets.{first_refused, sound_follows}
+use Rattle.samples.proofs.Laws.Shown.{headers_there, rows_there}
+use Rattle.samples.proofs.Laws.Added.{codes_refused, new_refused, new_taken}
 use Rattle.samples.proofs.add.add.Goals as goal
 
-pub returns-then-not-long_enough : goal.returns-then-not-long_enough
-unfolding Meets lent changed_answer long_enough
-returns-then-not-long_enough c =
-    short_refused _ _ _ (sym c.long_enough.ensures ∙ c.if-not-long_enough.true) refl
-
-pub returns-then-not-check : goal.returns-then-not-check
-unfolding Meets lent changed_answer long_enough
-returns-then-not-check c =
-    unsound_refused _ _ _ (sym c.long_enough.ensures ∙ c.if-not-long_enough.false)
-    (λ s. true≢false (sym (c.check.ensures.complete s) ∙ c.if-not-check.true)) refl
+pub returns-in_err-sound : goal.returns-in_err-sound
+unfolding Meets lent changed_answer
+returns-in_err-sound c =
+    let e = c.in_err-sound.field-0.0 in
+    first_refused _ _ _ _ c.in_err-sound.ensures.set c.in_err-sound.ensures.number
+    (ap changed_answer (passed_on e c.from_residual.result c.from_residual.ensures.1))
 
 pub returns-then-not-codes_fit : goal.returns-then-not-codes_fit
 unfolding Meets
 returns-then-not-codes_fit c =
-    sound_follows _ _ _ _ (c.check.ensures.sound c.if-not-check.false)
+    sound_follows _ _ _ _ (c.in_ok-sound.ensures.set.sound refl)
     (codes_refused c.args.samples.now c.args.octants.now c.args.s (sym c.codes_fit.ensures ∙ c.if-not-codes_fit.true))
 
-pub add_coded-requires : goal.add_coded-requires
-add_coded-requires c =
-    (c.check.ensures.sound c.if-not-check.false, sym c.codes_fit.ensures ∙ c.if-not-codes_fit.false)
+pub count-n-requires : goal.count-n-requires
+count-n-requires c =
+    omega (arith, current_numbers.sample_header_is, (headers_there _ _ (c.in_ok-sound.ensures.set.sound refl)).0)
+
+pub row_for-requires : goal.row_for-requires
+row_for-requires c =
+    rows_there _ _ (c.in_ok-sound.ensures.set.sound refl) _ c.count-n.ensures
+
+pub returns-in_err-row_for : goal.returns-in_err-row_for
+unfolding Meets
+returns-in_err-row_for c =
+    let a = c.args in
+    let e = c.in_err-row_for.field-0.0 in
+    sound_follows _ _ _ _ (c.in_ok-sound.ensures.set.sound refl)
+    (subst⁻¹ (λ (r : Result (Unit {0}) Refusal). FollowsAll (Add a.s) (pair a.samples.now a.octants.now) (changed_answer r) (pair a.samples.now a.octants.now))
+    (passed_on e c.from_residual-in_err-row_for.result c.from_residual-in_err-row_for.ensures.1)
+    (new_refused a.samples.now a.octants.now a.s (sym c.codes_fit.ensures ∙ c.if-not-codes_fit.false) _ c.count-n.ensures e c.in_err-row_for.ensures))
+
+pub add_in_row-requires : goal.add_in_row-requires
+add_in_row-requires c =
+    new_taken c.args.samples.now c.args.octants.now c.args.s (sym c.codes_fit.ensures ∙ c.if-not-codes_fit.false) _ c.count-n.ensures
+    c.in_ok-row_for.ensures (c.in_ok-sound.ensures.set.sound refl)
 
 pub returns : goal.returns
 unfolding Meets
 returns c =
-    sound_follows _ _ _ _ (c.check.ensures.sound c.if-not-check.false) c.add_coded.ensures
+    sound_follows _ _ _ _ (c.in_ok-sound.ensures.set.sound refl) c.add_in_row.ensures

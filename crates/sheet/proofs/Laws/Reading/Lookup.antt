@@ -177,9 +177,6 @@ name_within s tag = go (line_count s) refl
 
 -- The lookup's part of a sheet can be handed back, and it is what is promised.
 module _ (sheet : Bor (List ℕ)) (tag : ℕ) (p : Part) (e : p ≡ name_part sheet.now tag) where
-  pub part_within : Within p (length sheet.now)
-  part_within = rw e (name_within sheet.now tag)
-
   pub name_in : NameIn sheet tag (sl_partˢ sheet (by_byte p.start sheet.ref_ptr.1) p.start (p.start + p.size))
   unfolding bytes_of
   name_in =
