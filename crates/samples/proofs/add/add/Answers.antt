@@ -26,10 +26,6 @@ returns-then-not-codes_fit c =
     sound_follows _ _ _ _ (c.check.ensures.sound c.if-not-check.false)
     (codes_refused c.args.samples.now c.args.octants.now c.args.s (sym c.codes_fit.ensures ∙ c.if-not-codes_fit.true))
 
-pub add_coded-requires : goal.add_coded-requires
-add_coded-requires c =
-    (c.check.ensures.sound c.if-not-check.false, sym c.codes_fit.ensures ∙ c.if-not-codes_fit.false)
-
 pub returns : goal.returns
 unfolding Meets
 returns c =

@@ -31,7 +31,3 @@ add_in_row-requires c =
     now_adding c.args.samples.now c.args.octants.now c.args.s c.requires.1 _ c.count-n.ensures _ refl
     (row_is_not _ _ _ c.row_of.ensures c.is_some-known.ensures c.if-known.false)
     c.requires.0 (omega (arith, c.sample_rows.ensures.is, c.if-full.false))
-
-pub returns : goal.returns
-returns c =
-    c.add_in_row.ensures

@@ -19,10 +19,6 @@ returns-then-not-check c =
     unsound_refused _ _ _ (sym c.long_enough.ensures ∙ c.if-not-long_enough.false)
     (λ s. true≢false (sym (c.check.ensures.complete s) ∙ c.if-not-check.true)) refl
 
-pub remove_sound-requires : goal.remove_sound-requires
-remove_sound-requires c =
-    c.check.ensures.sound c.if-not-check.false
-
 pub returns : goal.returns
 unfolding Meets
 returns c =
