@@ -9,7 +9,7 @@ use Rattle.traversal.specs.Places.{children_in}
 use Rattle.traversal.specs.declared.children.Children.{Children}
 use Rattle.traversal.proofs.Laws.Places.{NextChild}
 use Rattle.listing.specs.Steps.{tally_in, Counting}
-use Rattle.listing.proofs.Laws.Steps.Turning.{meets, allowed, allowed_is, turning_begins, turning_ends, turning_barred, turning_visited, turning_counting, is_first, visited_long}
+use Rattle.listing.proofs.Laws.Steps.Turning.{meets, allowed, allowed_is, turning_begins, turning_ends, turning_barred, turning_visited, turning_counting, is_first}
 use Rattle.traversal.proofs.Laws.Cubes.{limit_rows, child_depth}
 use Rattle.listing.proofs.Laws.Steps.Visiting.{allowed_row, entered_counting, own_visited, deep, turns_visited, mask_is, child_visited}
 use Rattle.listing.proofs.visit.+visit.Goals as goal
@@ -44,14 +44,6 @@ permitted : (t : ℕ) (c : After-may_enter t)
 permitted t c =
     allowed_is _ _ _ _ _ _ c.loop-k.invariant c.in-Some.ensures.steps _ _ _ c.octant_child-next.ensures
     c.octant_limit-limit.ensures c.may_enter.ensures
-
-pub enter-requires : goal.enter-requires
-enter-requires t c =
-    let k = c.requires.counting in
-    (omega (arith, k.limits.entered, c.requires.next_bound), omega (arith, k.small, c.requires.next_bound))
-
-pub inside-whole-requires : goal.inside-whole-requires
-inside-whole-requires t c = c.requires.within
 
 pub ends-requires : goal.ends-requires
 unfolding depths
@@ -104,9 +96,6 @@ loop-k-preserved t c =
     let at = goal.at.loop-k-preserved t c in
     turning_barred _ _ _ _ _ _ c.loop-k.invariant c.in-Some.ensures.steps
     (permitted t at.After-may_enter ∙ c.if-may_enter.false)
-
-pub shape_of-listing : goal.shape_of-listing
-shape_of-listing t c = visited_long c.loop-k.invariant.visited
 
 pub returns : goal.returns
 returns t c =
