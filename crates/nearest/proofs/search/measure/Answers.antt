@@ -3,11 +3,8 @@ use mathlib.Core.Path.{◌∙◌, ap}
 use native.Mathlib.Omega.{arith}
 use Rattle.traversal.specs.Rows.{rows_left}
 use Rattle.traversal.proofs.Laws.Rows.{given_row}
-use Rattle.nearest.proofs.Laws.Steps.Measuring.{measuring_begins, measuring_ends, more, one_more}
+use Rattle.nearest.proofs.Laws.Steps.Measuring.{measuring_ends, more, one_more}
 use Rattle.nearest.proofs.search.measure.Goals as goal
-
-pub loop-row-init : goal.loop-row-init
-loop-row-init c = measuring_begins _ _ _ _ _ _ (ap rows_left c.into_iter-row-iterator.ensures.into_iter_gives ∙ c.rows_from-row-items.ensures)
 
 pub overflow_add-seen : goal.overflow_add-seen
 overflow_add-seen c = omega (arith, more _ _ _ _ _ _ c.loop-row.invariant c.in-Some.ensures.steps)

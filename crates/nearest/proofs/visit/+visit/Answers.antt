@@ -34,9 +34,6 @@ first_is t c = c.closest_child-first.ensures.is ∙ ap (λ (x : Cube). closest_c
 gaps_are : (t : ℕ) (c : After-gaps_of-gaps t) → c.gaps_of-gaps.result ≡ gaps_of c.args.centre.now c.parent_of-parent.result.half c.args.cube.low
 gaps_are t c = c.gaps_of-gaps.ensures.is ∙ ap (λ (x : Cube). gaps_of c.args.centre.now c.parent_of-parent.result.half x.low) c.parent_of-parent.ensures
 
-pub enter-search-requires : goal.enter-search-requires
-enter-search-requires t c = omega (arith, c.requires.ready.small, c.requires.row_bound)
-
 pub ends-requires : goal.ends-requires
 unfolding depths
 ends-requires t c = (limit_rows _ _ c.requires.row_bound.0, c.requires.within.depth)
