@@ -46,38 +46,6 @@ pub loop-i-init : goal.loop-i-init
 loop-i-init c =
     (refl, refl, refl, refl, begin _ _ _)
 
-pub overflow_mul-from : goal.overflow_mul-from
-overflow_mul-from c =
-    omega (arith, room (goal.at.overflow_mul-from c).In-loop-i)
-
-pub overflow_mul-to : goal.overflow_mul-to
-overflow_mul-to c =
-    omega (arith, room (goal.at.overflow_mul-to c).In-loop-i)
-
-pub offset_bounds-script-from : goal.offset_bounds-script-from
-offset_bounds-script-from c =
-    omega (arith, room (goal.at.offset_bounds-script-from c).In-loop-i)
-
-pub slice_bounds-step-count : goal.slice_bounds-step-count
-slice_bounds-step-count c =
-    omega (arith, room (goal.at.slice_bounds-step-count c).In-loop-i)
-
-pub slice_bounds-step-start : goal.slice_bounds-step-start
-slice_bounds-step-start c =
-    omega (arith, room (goal.at.slice_bounds-step-start c).In-loop-i)
-
-pub offset_bounds-floats-from : goal.offset_bounds-floats-from
-offset_bounds-floats-from c =
-    omega (arith, room (goal.at.offset_bounds-floats-from c).In-loop-i)
-
-pub slice_bounds-step-count-in-loop-i : goal.slice_bounds-step-count-in-loop-i
-slice_bounds-step-count-in-loop-i c =
-    omega (arith, room (goal.at.slice_bounds-step-count-in-loop-i c).In-loop-i)
-
-pub slice_bounds-step-start-in-loop-i : goal.slice_bounds-step-start-in-loop-i
-slice_bounds-step-start-in-loop-i c =
-    omega (arith, room (goal.at.slice_bounds-step-start-in-loop-i c).In-loop-i)
-
 pub offset_bounds-listings-at : goal.offset_bounds-listings-at
 offset_bounds-listings-at c =
     omega (arith, room (goal.at.offset_bounds-listings-at c).In-loop-i)
@@ -89,22 +57,6 @@ slice_bounds-step-count-in-loop-i-2 c =
 pub slice_bounds-step-start-in-loop-i-2 : goal.slice_bounds-step-start-in-loop-i-2
 slice_bounds-step-start-in-loop-i-2 c =
     omega (arith, room (goal.at.slice_bounds-step-start-in-loop-i-2 c).In-loop-i)
-
-pub offset_bounds-answers-to : goal.offset_bounds-answers-to
-offset_bounds-answers-to c =
-    omega (arith, room (goal.at.offset_bounds-answers-to c).In-loop-i)
-
-pub slice_bounds-step-count-in-loop-i-3 : goal.slice_bounds-step-count-in-loop-i-3
-slice_bounds-step-count-in-loop-i-3 c =
-    omega (arith, room (goal.at.slice_bounds-step-count-in-loop-i-3 c).In-loop-i)
-
-pub slice_bounds-step-start-in-loop-i-3 : goal.slice_bounds-step-start-in-loop-i-3
-slice_bounds-step-start-in-loop-i-3 c =
-    omega (arith, room (goal.at.slice_bounds-step-start-in-loop-i-3 c).In-loop-i)
-
-pub step-lent-requires : goal.step-lent-requires
-step-lent-requires c =
-    simp (length-take, length-drop) (omega (arith, room (goal.at.step-lent-requires c).In-loop-i))
 
 pub overflow_add-at : goal.overflow_add-at
 overflow_add-at c =
@@ -125,22 +77,6 @@ loop-i-preserved c =
       same_len_mid (answer_width * l.i) (length l.answers - answer_width * l.i) l.answers st.new.answers st.auto.answers ∙ l.invariant.3,
       turn _ _ _ l.i l.at l.listings l.answers _ l.invariant.4 st.result _ _ _ st.ensures,
     )
-
-pub shape_of-samples : goal.shape_of-samples
-shape_of-samples c =
-    c.loop-i.invariant.0
-
-pub shape_of-octants : goal.shape_of-octants
-shape_of-octants c =
-    c.loop-i.invariant.1
-
-pub shape_of-listings : goal.shape_of-listings
-shape_of-listings c =
-    c.loop-i.invariant.2
-
-pub shape_of-answers : goal.shape_of-answers
-shape_of-answers c =
-    c.loop-i.invariant.3
 
 pub returns : goal.returns
 unfolding steps_of
