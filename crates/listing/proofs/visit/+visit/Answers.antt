@@ -49,9 +49,8 @@ pub ends-requires : goal.ends-requires
 unfolding depths
 ends-requires t c = (limit_rows _ _ c.requires.next_bound.1, c.requires.within.depth)
 
-pub own_samples-requires : goal.own_samples-requires
-own_samples-requires t c =
-    record { counting = after_enter t (goal.at.own_samples-requires t c).After-enter; row_bound = c.requires.next_bound.1 }
+pub own_samples-requires-clause-counting : goal.own_samples-requires-clause-counting
+own_samples-requires-clause-counting t c = after_enter t (goal.at.own_samples-requires-clause-counting t c).After-enter
 
 pub returns-then-ends : goal.returns-then-ends
 returns-then-ends t c =
@@ -59,9 +58,8 @@ returns-then-ends t c =
     own_visited _ _ _ _ _ _ _ p.within p.counting p.next_bound.0 p.next_bound.1 c.enter.ensures c.inside-whole.result c.ends.result
     c.inside-whole.ensures c.ends.ensures c.if-ends.true c.own_samples.ensures
 
-pub parent_of-parent-requires : goal.parent_of-parent-requires
-parent_of-parent-requires t c =
-    record { within = c.requires.within; deep = deep_at t (goal.at.parent_of-parent-requires t c).Else-ends }
+pub parent_of-parent-requires-clause-deep : goal.parent_of-parent-requires-clause-deep
+parent_of-parent-requires-clause-deep t c = deep_at t (goal.at.parent_of-parent-requires-clause-deep t c).Else-ends
 
 pub loop-k-init : goal.loop-k-init
 loop-k-init t c =

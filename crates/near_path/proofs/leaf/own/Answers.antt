@@ -13,9 +13,8 @@ pub overflow_cast-search : goal.overflow_cast-search
 overflow_cast-search c =
     omega (arith, c.requires.ready.limits.visited, budget_most c.args.tables.now.samples.now)
 
-pub most-count-requires : goal.most-count-requires
-most-count-requires c =
-    let pre = c.requires in record { row_bound = limit_rows _ _ pre.octant_bound; visited_bound = omega (arith, pre.ready.limits.visited) }
+pub most-count-requires-clause-row_bound : goal.most-count-requires-clause-row_bound
+most-count-requires-clause-row_bound c = limit_rows _ _ c.requires.octant_bound
 
 pub octant_first-first-requires : goal.octant_first-first-requires
 octant_first-first-requires c =

@@ -17,9 +17,6 @@ module _ (ws : List ℕ) (c : Colour) (octant first count : ℕ) (start : Best) 
     pub best_is : measure_rows ws c octant best ahead ≡ measure_rows ws c octant start (rows_from ws count first)
     pub passed : seen + length ahead ≡ length (rows_from ws count first)
 
-  pub measuring_begins : {ahead : List ℕ} → ahead ≡ rows_from ws count first → Measuring ahead 0 start
-  measuring_begins e = rw e (record { best_is = refl; passed = omega arith })
-
   module _ {ahead : List ℕ} {seen : ℕ} {best : Best} (g : Measuring ahead seen best) where
     -- Nothing is left.
     pub measuring_ends : ahead ≡ [] → Measured ws c octant first count start (record { gathered = best; seen = seen })

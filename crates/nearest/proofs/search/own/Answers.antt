@@ -5,9 +5,8 @@ use Rattle.traversal.proofs.Laws.Cubes.{limit_rows}
 use Rattle.nearest.proofs.Laws.Steps.Searching.{own_measured, own_room}
 use Rattle.nearest.proofs.search.own.Goals as goal
 
-pub most-count-requires : goal.most-count-requires
-most-count-requires c =
-    record { row_bound = limit_rows _ _ c.requires.row_bound; visited_bound = c.requires.ready.limits.visited }
+pub most-count-requires-clause-row_bound : goal.most-count-requires-clause-row_bound
+most-count-requires-clause-row_bound c = limit_rows _ _ c.requires.row_bound
 
 pub octant_first-first-requires : goal.octant_first-first-requires
 octant_first-first-requires c =
