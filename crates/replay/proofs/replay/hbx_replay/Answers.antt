@@ -12,35 +12,11 @@ use Rattle.replay.proofs.Laws.Day.{replayed}
 use Rattle.replay.proofs.replay.hbx_replay.Goals as goal
 use Rattle.replay.proofs.replay.hbx_replay.Goals.{In-loop-i}
 
--- Room for a step that is left, and lengths whose bytes can be counted.
-record Room (words floats answers listings i at : ℕ) : Type 0 where
-  in_words : step_width * i ≤ words
-  in_floats : step_width * i ≤ floats
-  in_answers : answer_width * i + answer_width ≤ answers
-  in_listings : at ≤ listings
-  few_words : words * 4 < 2 ^ 63
-  few_floats : floats * 4 < 2 ^ 63
-  few_answers : answers * 4 < 2 ^ 63
-  few_listings : listings * 4 < 2 ^ 63
-
-room : (c : In-loop-i)
-    → let a = c.args in
-    let l = c.loop-i in
-    Room (length a.script.now) (length a.floats.now) (length l.answers) (length l.listings) l.i l.at
+-- The listings so far are within the place for them, and its bytes can be counted.
+room : (c : In-loop-i) → (c.loop-i.at ≤ length c.loop-i.listings) × (length c.loop-i.listings * 4 < 2 ^ 63)
 room c =
-    let n = c.steps_of-steps.ensures in
     let l = c.loop-i.invariant in
-    let good = c.well_formed.1.1 in
-    record {
-      in_words = omega arith;
-      in_floats = omega arith;
-      in_answers = omega arith;
-      in_listings = within _ _ _ _ _ _ _ _ l.4;
-      few_words = good.0.1;
-      few_floats = good.1.0.1;
-      few_answers = omega (arith, l.3, good.1.1.1.1.0.1);
-      few_listings = omega (arith, l.2, good.1.1.1.0.1);
-    }
+    (within _ _ _ _ _ _ _ _ l.4, omega (arith, l.2, c.well_formed.1.1.1.1.1.0.1))
 
 pub loop-i-init : goal.loop-i-init
 loop-i-init c =
