@@ -1,7 +1,6 @@
 -- Records of document 01 from the flat numbers, floats and words of a C call: its arguments, and what it leaves.
 use Rattle.std.specs.Prelude.{Result, ℕ, ◌≤◌, Bool, List, ◌≡◌, eqb, Float}
-use Rattle.colour.specs.Channels.{Colour}
-use Rattle.colour.specs.Channels.{PanelColour}
+use Rattle.colour.specs.Channels.{Colour, PanelColour}
 use Rattle.colour.specs.declared.Sample.{Sample}
 use Rattle.colour.specs.Panel.{CodesAnswer, FloatsAnswer}
 use Rattle.colour.specs.declared.refusal.Refusal.{Refusal}

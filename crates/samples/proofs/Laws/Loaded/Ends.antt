@@ -1,7 +1,7 @@
 -- `stopped`: why a load ends before a line.
 use Prim.Native.Nat.{ℕ, ◌-◌, ◌≤◌, ◌<◌}
 use mathlib.Core.List.{List}
-use Rattle.std.specs.Prelude.{None, Some}
+use Rattle.std.specs.Prelude.{None, Some, Ok, Err}
 use mathlib.Core.Path.{◌≡◌, refl, ap, ap₂}
 use borrow.Author.Tests.{lt-ltb, le-ltb, le-leb, lt-leb}
 use lib.Dec.{leb, ltb}
@@ -14,7 +14,6 @@ use Rattle.sheet.specs.Sheet.{line_part, lines_from}
 use Rattle.model.specs.Layout.{current, sample_rows}
 use Rattle.words.specs.Rows.{samples_from}
 use Rattle.words.proofs.Laws.Layout.Samples.{samples_length}
-use Rattle.std.specs.Prelude.{Ok, Err}
 use Rattle.samples.specs.Steps.{row_of_tag, stop_by, stop_number, Stopped}
 use Rattle.samples.proofs.Laws.Tags.{tag_in_rows}
 use Rattle.samples.proofs.Laws.Loaded.Left.{next_left, none_left}
