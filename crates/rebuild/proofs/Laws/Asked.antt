@@ -13,9 +13,7 @@ use Rattle.model.specs.SampleSet.{settings_good}
 use Rattle.model.specs.Layout.{current, sample_rows}
 use Rattle.model.specs.Tables.{Tables, pair}
 use Rattle.model.specs.Sound.{long_enough}
-use Rattle.words.proofs.Laws.Layout.Places.{rows_few}
-use Rattle.octree.proofs.Laws.Tables.Check.{both_long}
-use Rattle.samples.specs.Rebuilding.{codes_asked, Rebuilt, Space}
+use Rattle.samples.specs.Rebuilding.{codes_asked, Rebuilt}
 use Rattle.samples.proofs.Laws.Rebuilt.{no_to, yes_to}
 use Rattle.rebuild.specs.Questions.{rebuild_questions, RebuildMeets}
 

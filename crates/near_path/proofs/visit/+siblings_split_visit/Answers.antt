@@ -1,22 +1,19 @@
 -- `visit::visit`, `visit::split` and `visit::siblings`: the closest child first, then the siblings that are still close enough; the search is the
 -- definition's.
 use Prim.Native.Nat.{ℕ, ◌<◌}
-use mathlib.Core.List.{List}
 use mathlib.Core.Path.{◌≡◌, sym, ap, ap₂, ◌∙◌, subst}
 use Rattle.colour.specs.declared.Cube.{Cube}
 use native.Mathlib.Omega.{arith}
 use Rattle.colour.specs.declared.Probe.{Probe}
 use Rattle.colour.specs.Octant.{depths}
-use Rattle.traversal.specs.Squares.{Squares}
 use Rattle.traversal.specs.declared.spot.Spot.{Spot}
 use Rattle.traversal.specs.declared.spot.Fork.{Fork}
-use Rattle.traversal.specs.Nearby.{turn_within, far_of, SmallSquares}
+use Rattle.traversal.specs.Nearby.{far_of, SmallSquares}
 use Rattle.traversal.specs.Children.{child_at}
 use Rattle.traversal.specs.Places.{children_in}
 use Rattle.traversal.specs.declared.children.Children.{Children}
 use Rattle.traversal.specs.Search.{Searching, search_entering, own_search}
 use Rattle.traversal.specs.Spot.{Stood, Forked, fork_of, turn_at, siblings_at, split_at}
-use Rattle.traversal.proofs.Laws.Places.{NextChild}
 use Rattle.traversal.proofs.Laws.Cubes.{limit_rows}
 use Rattle.traversal.proofs.Laws.Search.Keeps.{entering_within, still_ready}
 use Rattle.traversal.proofs.Laws.Search.Spots.{first_small, kid_small, kid_turn, kid_first, far_rising, turn_small}
@@ -24,7 +21,6 @@ use Rattle.traversal.proofs.Laws.Search.Spots.{Told, turn_told, told_barred, tol
 use Rattle.traversal.proofs.Laws.Search.Path.{Siblings, turning_begins, next_is, turning_barred, turning_visited, turning_ends}
 use Rattle.near_path.specs.Best.{Kept, bests}
 use Rattle.traversal.specs.Steps.{SearchReady}
-use Rattle.near_path.specs.declared.best.Search.{Search}
 use Rattle.near_path.specs.Steps.{search_as, search_in, search_after}
 use Rattle.near_path.proofs.Laws.Closer.{best_steady, best_beyond}
 use Rattle.near_path.proofs.Laws.Starting.{lent_ready}

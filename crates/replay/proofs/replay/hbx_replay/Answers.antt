@@ -1,10 +1,10 @@
 -- `replay::hbx_replay`: after i turns the first i steps are made.
-use Prim.Native.Nat.{ℕ, ◌+◌, ◌-◌, ◌*◌, ◌^◌, ◌≤◌, ◌<◌}
+use Prim.Native.Nat.{◌-◌, ◌*◌, ◌^◌, ◌≤◌, ◌<◌}
 use mathlib.Core.Path.{◌≡◌, refl, ◌∙◌}
 use native.Mathlib.Omega.{arith}
 use borrow.Rule.Slice.PartMut.{same_len_mid}
 use lib.ListN.{length, take, drop, length-take, length-drop}
-use Rattle.replay.specs.Format.{step_width, answer_width}
+use Rattle.replay.specs.Format.{answer_width}
 use Rattle.replay.specs.Script.{steps_of}
 use Rattle.replay.proofs.Laws.Events.{begin, within, turn}
 use Rattle.replay.proofs.Laws.Steps.{lent_within}
