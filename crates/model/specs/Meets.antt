@@ -7,8 +7,7 @@ use Rattle.colour.specs.Question.{first_no}
 use Rattle.colour.specs.Query.{query_questions}
 use Rattle.model.specs.Layout.{current}
 use Rattle.model.specs.Tables.{Tables}
-use Rattle.model.specs.Machine.{Machine, Call, Clear, Change, Ask, lent, Answer, tables_of, plain, list_answer, nearest_answer}
-use Rattle.model.specs.Machine.{step, next_state, start, clear_questions}
+use Rattle.model.specs.Machine.{Machine, Call, Clear, Change, Ask, lent, Answer, tables_of, plain, list_answer, nearest_answer, step, next_state, start, clear_questions}
 use Rattle.model.specs.Sound.{Shows, Sound, long_enough}
 
 -- Call c on tables t gives the number n alone, and leaves the listing and the tables as they were.

@@ -2,4 +2,3 @@
 pub mod Answers
 pub mod Words
 pub mod Layout
-pub mod Clipped

@@ -6,8 +6,7 @@ use Rattle.std.specs.Prelude.{Result, Ok, Err}
 use Prim.Native.Nat.{ℕ}
 use native.Mathlib.Omega.{arith}
 use lib.Ieee.{Float}
-use Rattle.colour.specs.Channels.{Colour, Tried, all, red, green, blue}
-use Rattle.colour.specs.Channels.{PanelColour}
+use Rattle.colour.specs.Channels.{Colour, Tried, all, red, green, blue, PanelColour}
 use Rattle.colour.specs.declared.refusal.Refusal.{Refusal}
 use Rattle.colour.specs.declared.refusal.Refusal.TheVariants as R
 use Rattle.colour.specs.Colour.{Channel, Red, Green, Blue, code_in, each, is_code, codes_fit}

@@ -5,8 +5,7 @@ use Prim.Native.Nat.{ℕ}
 use native.Mathlib.Omega.{arith}
 use lib.Ieee.{Float}
 use Rattle.std.specs.Prelude.{Result, Ok, Err}
-use Rattle.colour.specs.Channels.{Colour}
-use Rattle.colour.specs.Channels.{PanelColour}
+use Rattle.colour.specs.Channels.{Colour, PanelColour}
 use Rattle.colour.specs.declared.Query.{Query}
 use Rattle.colour.specs.declared.Query.TheVariants as Q
 use Rattle.colour.specs.declared.Region.TheVariants as R

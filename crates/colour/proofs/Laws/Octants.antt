@@ -4,8 +4,7 @@ use Prim.Native.Nat.{ℕ, zero, suc, ◌+◌, ◌-◌, ◌*◌, ◌/◌, ◌%◌
 use mathlib.Core.Bool.{true, ◌&&◌}
 use mathlib.Core.Path.{◌≡◌, refl, sym, ap, ap₂, ◌∙◌}
 use mathlib.Core.Logic.{◌↔◌}
-use native.Mathlib.Nat.{mul-add, add-mul, two-pow-succ, mul-mod_left, mul-le-mul_right, zero-add}
-use native.Mathlib.Nat.{div-add-mod', div-eq_of_lt-le, div-mul-le_self, lt-div-mul-add, le-div_iff_mul-le, div-lt_iff_lt-mul}
+use native.Mathlib.Nat.{mul-add, add-mul, two-pow-succ, mul-mod_left, mul-le-mul_right, zero-add, div-add-mod', div-eq_of_lt-le, div-mul-le_self, lt-div-mul-add, le-div_iff_mul-le, div-lt_iff_lt-mul}
 use native.Mathlib.Omega.{arith}
 use lib.Dec.{leb-zero, leb-suc-suc}
 use lib.Pow.{pow_pos}

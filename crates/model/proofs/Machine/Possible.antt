@@ -13,8 +13,7 @@ use Rattle.colour.specs.declared.Query.{Query}
 use Rattle.colour.specs.Question.{first_no}
 use Rattle.model.specs.Layout.{current, sample_header, octant_header}
 use Rattle.model.specs.Tables.{Tables}
-use Rattle.model.specs.Machine.{Machine, Call, Clear, Change, Ask, lent, tables_of, with_set, plain, list_answer, nearest_answer, clear_questions}
-use Rattle.model.specs.Machine.{Outcome, step, next_state, start}
+use Rattle.model.specs.Machine.{Machine, Call, Clear, Change, Ask, lent, tables_of, with_set, plain, list_answer, nearest_answer, clear_questions, Outcome, step, next_state, start}
 use Rattle.model.specs.Sound.{Shows, Sound, long_enough}
 use Rattle.model.specs.Meets.{Meets, ClearMeets, TableMeets, Follows, Free, lists, may_give, own_reports}
 use Rattle.model.specs.Trace.{Happened, played, machine_trace}

@@ -21,9 +21,8 @@ use Rattle.sheet.proofs.Laws.Ranges.{Ranged, AllRanged, sheet_ranged}
 use Rattle.model.specs.Lists.{keep}
 use Rattle.model.specs.SampleSet.{settings_good, placed_from, placed, octants}
 use Rattle.model.specs.Layout.{current, sample_header, octant_header, sample_rows, octant_rows}
-use Rattle.model.specs.Machine.{Machine, Call, Clear, Change, Load, Add, Remove, Ask, with_set, with_samples, empty_set, added, removed, has_tag}
+use Rattle.model.specs.Machine.{Machine, Call, Clear, Change, Load, Add, Remove, Ask, with_set, with_samples, empty_set, added, removed, has_tag, start_on}
 use Rattle.model.specs.Machine.{fit_questions, new_questions, line_questions, clear_questions, questions, loaded, load_lines, accepted, refusal, next_state}
-use Rattle.model.specs.Machine.{start_on}
 use Rattle.model.specs.Sound.{Valid, Distinct, CodesInRange}
 use Rattle.model.proofs.Lists.{keep_length}
 use Rattle.model.proofs.Machine.Samples.{keep_distinct, keep_range, snoc_distinct, both_range}

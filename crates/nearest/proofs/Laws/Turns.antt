@@ -1,13 +1,12 @@
 -- Functions that may be applied in any sequence.
-use Prim.Native.Nat.{ℕ, zero, suc, ◌+◌, ◌*◌, ◌/◌, ◌%◌, ◌≤◌, ◌<◌}
+use Prim.Native.Nat.{ℕ, zero, suc, ◌+◌, ◌≤◌, ◌<◌}
 use mathlib.Core.Bool.{Bool, true, false}
 use mathlib.Core.Logic.{inl, inr}
-use mathlib.Core.Path.{◌≡◌, refl, sym, ap, ap₂, ◌∙◌}
-use native.Mathlib.Nat.{eq-or-lt_of_le, div-add-mod'}
+use mathlib.Core.Path.{◌≡◌, refl, sym, ap, ◌∙◌}
+use native.Mathlib.Nat.{eq-or-lt_of_le}
 use native.Mathlib.Omega.{arith}
 use borrow.Author.Tests.{ltb-true, ltb-false, lt-ltb, le-ltb}
-use lib.Arith.{bin_ind}
-use lib.Bits.{bit_xor, differ, xor_step, xor_lt}
+use lib.Bits.{bit_xor, xor_self, xor_assoc, xor_lt}
 use lib.Dec.{ltb}
 use Rattle.colour.specs.Octant.{children}
 use Rattle.model.specs.Lists.{total}
@@ -117,25 +116,9 @@ module _ (n : ℕ) (σ : ℕ → ℕ) (below : (k : ℕ) → k < n → σ k < n)
   total_turned f =
       total_in_turn (λ m. f (σ m)) n ∙ turned (λ k a. a + f k) (λ i k h l d a. omega arith) 0 ∙ sym (total_in_turn f n)
 
--- A digit that is changed twice by the same digit is itself again.
-differ_back : (x y : ℕ) → x < 2 → y < 2 → (differ x y < 2) × (differ x (differ x y) ≡ y)
-differ_back zero y h l = (l, refl)
-differ_back (suc zero) zero h l = (omega arith, refl)
-differ_back (suc zero) (suc zero) h l = (omega arith, refl)
-differ_back (suc zero) (suc (suc y)) h l = absurd (omega arith)
-differ_back (suc (suc x)) y h l = absurd (omega arith)
-
--- So is a number.
-pub xor_back : (a b : ℕ) → bit_xor a (bit_xor a b) ≡ b
-xor_back =
-    bin_ind (λ (n : ℕ). (b : ℕ) → bit_xor n (bit_xor n b) ≡ b) (λ b. refl)
-    (λ n ih b.
-    let d = differ_back (n % 2) (b % 2) (omega arith) (omega arith) in
-    let half : bit_xor n b / 2 ≡ bit_xor (n / 2) (b / 2) = omega (arith, xor_step n b, d.0) in
-    let odd : bit_xor n b % 2 ≡ differ (n % 2) (b % 2) = omega (arith, xor_step n b, d.0) in
-    xor_step n (bit_xor n b)
-    ∙ ap₂ (λ (x y : ℕ). x * 2 + y) (ap (bit_xor (n / 2)) half ∙ ih (b / 2)) (ap (differ (n % 2)) odd ∙ d.1)
-    ∙ div-add-mod' b 2)
+-- A number that is changed twice by the same number is itself again.
+xor_back : (a b : ℕ) → bit_xor a (bit_xor a b) ≡ b
+xor_back a b = sym (xor_assoc a a b) ∙ ap (λ (n : ℕ). bit_xor n b) (xor_self a)
 
 -- The children, taken from child `first` on: child `first` xor m in turn m.
 module _ (first : ℕ) (small : first < 8) where

@@ -6,8 +6,7 @@ use mathlib.Core.Path.{◌≡◌, refl, sym, ap, ◌∙◌}
 use native.Mathlib.Omega.{arith}
 use lib.Dec.{ltb}
 use lib.Ieee.{Float}
-use Rattle.colour.specs.Channels.{Colour}
-use Rattle.colour.specs.Channels.{PanelColour}
+use Rattle.colour.specs.Channels.{Colour, PanelColour}
 use Rattle.colour.specs.declared.Query.{Query}
 use Rattle.colour.specs.declared.Query.TheVariants as Q
 use Rattle.colour.specs.declared.Region.{Region}

@@ -10,8 +10,7 @@ use Rattle.colour.specs.declared.Query.{Query}
 use Rattle.colour.specs.Query.{query_good, query_questions, in_codes}
 use Rattle.colour.specs.Question.{Question, first_no}
 use Rattle.colour.proofs.Laws.Questions.{first_yes, first_no_lem}
-use Rattle.model.specs.Machine.{Machine, Ask, lent, Answer, plain, unless_refused, with_set, wanted_questions, questions}
-use Rattle.model.specs.Machine.{Outcome, wanted_answer, accepted, refusal, step, next_state}
+use Rattle.model.specs.Machine.{Machine, Ask, lent, Answer, plain, unless_refused, with_set, wanted_questions, questions, Outcome, wanted_answer, accepted, refusal, step, next_state}
 use Rattle.model.proofs.Machine.Step.{step_accepted, step_refused, answer_accepted, answer_refused}
 
 -- An answer goes by the number alone.

@@ -13,9 +13,7 @@ use Rattle.model.specs.SampleSet.{settings_good}
 use Rattle.model.specs.Layout.{current, sample_rows}
 use Rattle.model.specs.Tables.{Tables, pair}
 use Rattle.model.specs.Sound.{long_enough}
-use Rattle.words.proofs.Laws.Layout.Places.{rows_few}
-use Rattle.octree.proofs.Laws.Tables.Check.{both_long}
-use Rattle.samples.specs.Rebuilding.{codes_asked, Rebuilt, Space}
+use Rattle.samples.specs.Rebuilding.{codes_asked, Rebuilt}
 use Rattle.samples.proofs.Laws.Rebuilt.{no_to, yes_to}
 use Rattle.rebuild.specs.Questions.{rebuild_questions, RebuildMeets}
 
@@ -45,15 +43,5 @@ module _ (x : Settings) (n : ℕ) (ws os : List ℕ) where
       says_6 over = after_3 6 t (no_to 6 rowed (codes_asked x n t) x n t (λ e. omega (arith, e)) (lt-leb n (sample_rows current (length ws)) over))
 
       module _ (few : n ≤ sample_rows current (length ws)) where
-        pub spaced : Space ws os n 4096
-        unfolding long_enough
-        spaced =
-            record {
-              sample_words_is = (both_long ws os long).0;
-              octant_words_is = (both_long ws os long).1;
-              few = few;
-              space = omega (arith, few, rows_few (length ws));
-            }
-
         pub then_told : (r : ℕ) (t' : Tables) → Rebuilt (codes_asked x n t) x n t r t' → RebuildMeets x n t r t'
         then_told r t' told = after_3 r t' (yes_to 6 rowed (codes_asked x n t) x n t r t' (le-leb n (sample_rows current (length ws)) few) told)

@@ -2,7 +2,7 @@
 use mathlib.Core.Path.{sym, ◌∙◌}
 use native.Mathlib.Omega.{arith}
 use Rattle.model.specs.Sound.{long_enough}
-use Rattle.rebuild.proofs.Laws.Asked.{says_1, says_3, says_6, spaced, then_told}
+use Rattle.rebuild.proofs.Laws.Asked.{says_1, says_3, says_6, then_told}
 use Rattle.rebuild.proofs.rebuild_tables.Goals as goal
 
 pub returns-then-not-long_enough : goal.returns-then-not-long_enough
@@ -22,14 +22,6 @@ returns-then-sample_rows-n c =
     (sym c.long_enough.ensures ∙ c.if-not-long_enough.false)
     (sym c.settings_fit.ensures ∙ c.if-not-settings_fit.false)
     (omega (arith, c.sample_rows.ensures.is, c.if-sample_rows-n.true))
-
-pub rebuild-requires : goal.rebuild-requires
-unfolding long_enough
-rebuild-requires c =
-    spaced c.args.settings c.args.n c.args.samples.now c.args.octants.now
-    (sym c.long_enough.ensures ∙ c.if-not-long_enough.false)
-    (sym c.settings_fit.ensures ∙ c.if-not-settings_fit.false)
-    (omega (arith, c.sample_rows.ensures.is, c.if-sample_rows-n.false))
 
 pub returns : goal.returns
 unfolding long_enough

@@ -5,17 +5,17 @@ use mathlib.Core.Path.{◌≡◌, ap, ◌∙◌}
 use native.Mathlib.Omega.{arith}
 use lib.ListN.{length, take, drop, length-append, length-drop}
 use lib.Seq.{take_all, drop-drop, take-append_seam, drop-append_seam}
-use Rattle.words.proofs.Laws.Clipped.{take_clipped, drop_clipped}
+use Rattle.std.proofs.lemmas.List.{take_min, drop_min}
 use Rattle.replay.specs.Script.{written_over}
 
 -- A part whose start and size are clipped.
 pub part_clipped : (l : List ℕ) (from most start size : ℕ) → start ≡ min from (length l) → size ≡ min most (length l - start)
     → take (start + size - start) (drop start l) ≡ take most (drop from l)
 part_clipped l from most start size f m =
-    let part : drop start l ≡ drop from l = ap (λ (k : ℕ). drop k l) f ∙ drop_clipped from l in
+    let part : drop start l ≡ drop from l = ap (λ (k : ℕ). drop k l) f ∙ drop_min from l in
     let count : start + size - start ≡ min most (length (drop start l)) = omega (arith, length-drop start l) in
     ap (λ (k : ℕ). take k (drop start l)) count
-    ∙ take_clipped most (drop start l)
+    ∙ take_min most (drop start l)
     ∙ ap (take most) part
 
 -- A part to the end of a list is the list from there on.

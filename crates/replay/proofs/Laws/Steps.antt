@@ -20,7 +20,7 @@ use Rattle.replay.specs.Calls.{meant, query_of, listing_of, answer_of, given_ans
 use Rattle.replay.specs.Format.{lent_at}
 use Rattle.replay.specs.Script.{call_in, sheet_in, wants, lent_of, step_call, answer_words, written_over}
 use Rattle.replay.specs.Replayed.{NamedAnswer, Stepped}
-use Rattle.words.proofs.Laws.Clipped.{take_clipped}
+use Rattle.std.proofs.lemmas.List.{take_min}
 
 -- The words of an answer do not tell its listing, which is as it is left.
 record Tells (r : Given) (listing : List ℕ) : Type 0 where
@@ -60,7 +60,7 @@ module _ (words : List ℕ) (floats : List Float) (sheets listings answers : Lis
       let n-clipped : n ≡ min (wants (query_of (call_in words floats)) (get_or words lent_at 0)) (length listings) =
       n-is ∙ ap (λ (x : Call). min (wants (query_of x) (get_or words lent_at 0)) (length listings)) call-is in
       let part_is : take n listings ≡ lent_of words floats listings =
-      ap (λ (k : ℕ). take k listings) n-clipped ∙ take_clipped (wants (query_of (call_in words floats)) (get_or words lent_at 0)) listings in
+      ap (λ (k : ℕ). take k listings) n-clipped ∙ take_min (wants (query_of (call_in words floats)) (get_or words lent_at 0)) listings in
       let m : CallMeets (call_in words floats) (sheet_in words sheets) (lent_of words floats listings) t r left t' =
       rw (call-is, sheet-is, part_is) at meets in
       let told = tells r (listing_of (query_of (call_in words floats)) left) in

@@ -1,10 +1,9 @@
 -- Rows that are a set which fits: tags, codes, octants.
 use Prim.Native.Nat.{ℕ, ◌≤◌}
-use mathlib.Core.Bool.{Bool, true, false, not, false≢true}
+use mathlib.Core.Bool.{Bool, true, false}
 use mathlib.Core.List.{List}
 use mathlib.Core.Logic.{◌↔◌}
 use mathlib.Core.Path.{◌≡◌, sym, ap, ◌∙◌, subst}
-use borrow.Author.Tests.{not-true}
 use native.Mathlib.Omega.{arith}
 use lib.ListN.{length}
 use Rattle.colour.specs.declared.Settings.{Settings}
@@ -12,7 +11,7 @@ use Rattle.model.specs.SampleSet.{octants}
 use Rattle.model.specs.Layout.{current, sample_rows, octant_rows}
 use Rattle.model.specs.Sound.{Distinct, CodesInRange}
 use Rattle.words.specs.Rows.{samples_from, set_of}
-use Rattle.words.proofs.Laws.Answers.{says_yes, says_no, refuted}
+use Rattle.words.proofs.Laws.Answers.{says_yes, says_no}
 use Rattle.order.specs.Entries.{entries_of}
 use Rattle.octree.specs.Steps.{Judged}
 use Rattle.std.specs.Prelude.{Result}
@@ -25,14 +24,7 @@ use Rattle.samples.specs.Steps.{Acceptable}
 
 -- Entries keep their number through the calls: n at first, then m, then those of es.
 module _ (x : Settings) (ws : List ℕ) (octant_length n : ℕ) where
-  pub tag_twice : (q : Bool) → not q ≡ true → (q ≡ true) ↔ Distinct (samples_from current ws 0 n) → (false ≡ true) ↔ Acceptable x ws octant_length n
-  tag_twice q off t = refuted q off t (λ a. a.tags_distinct)
-
   module _ (m : ℕ) (kept : m ≡ n) where
-    pub code_out : (q : Bool) → not q ≡ true → (CodesInRange (samples_from current ws 0 m) → q ≡ true) → (false ≡ true) ↔ Acceptable x ws octant_length n
-    code_out q off t =
-        says_no (λ a. false≢true (sym (not-true q off) ∙ t (subst (λ (k : ℕ). CodesInRange (samples_from current ws 0 k)) (sym kept) a.in_range)))
-
     module _ (es after : List ℕ) (as_long : length es ≡ m) (few : n ≤ sample_rows current (length ws)) (entries : es ≡ entries_of (samples_from current ws 0 m))
         (r : Result ℕ Refusal) (told : Judged x.bucket es after (length ws) octant_length r) where
       few_entries : length es ≤ sample_rows current (length ws)

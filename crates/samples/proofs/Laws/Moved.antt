@@ -40,18 +40,6 @@ pub record Moved (row n : ℕ) (before ws : List ℕ) (i : ℕ) : Type 0 where
   pub moved : (k : ℕ) → row ≤ k → k < i - 1 → sample_in current ws k ≡ sample_in current before (suc k)
   pub rest : (k : ℕ) → i ≤ k → sample_in current ws k ≡ sample_in current before k
 
--- None yet.
-pub moved_none : (row n : ℕ) (ws : List ℕ) → row < n → Moved row n ws ws (row + 1)
-moved_none row n ws h =
-    record {
-      long = refl;
-      least = omega arith;
-      most = omega arith;
-      same = λ k l. refl;
-      moved = λ k l r. absurd (omega arith);
-      rest = λ k l. refl;
-    }
-
 module _ {row n : ℕ} {before ws : List ℕ} {i : ℕ} (p : Moved row n before ws i) where
   -- One row more: the sample of row i is put in the row before it.
   put_moved : (s : Sample) → i < n → n ≤ sample_rows current (length before) → s ≡ sample_in current ws i

@@ -25,7 +25,7 @@ use Rattle.std.specs.Prelude.{Result, Ok, Err}
 use Rattle.colour.specs.declared.refusal.Refusal.{Refusal}
 use Rattle.colour.specs.Refusal.{refusal_number, answer_number}
 use Rattle.octree.proofs.Laws.Tables.Judged.{fits_room, room_fits}
-use Rattle.samples.specs.Rebuilding.{all_fit, room_asked, codes_asked, Rebuilt, Space, Entered}
+use Rattle.samples.specs.Rebuilding.{all_fit, room_asked, codes_asked, Rebuilt, Entered}
 use Rattle.samples.specs.Steps.{Acceptable}
 
 -- The number by an equation.
@@ -143,22 +143,10 @@ module _ (x : Settings) (n : ℕ) (ws os : List ℕ) where
 
   -- Entries that were filled in are those of the rows.
   module _ (es : List ℕ) (as_long : length es ≡ n) (good : CodesInRange xs) where
-    pub entered : (scratch : ℕ) → Space ws os n scratch → es ≡ entries_of xs → Entered ws os es scratch
-    entered scratch s e =
-        record {
-          spaced = subst (λ (m : ℕ). Space ws os m scratch) (sym as_long) s;
-          in_range = subst (λ (m : ℕ). CodesInRange (samples_from current ws 0 m)) (sym as_long) good;
-          entries = e ∙ ap (λ (m : ℕ). entries_of (samples_from current ws 0 m)) (sym as_long);
-        }
-
     pub with_codes : (r : ℕ) (t' : Tables) → Rebuilt (room_asked x (length es) t₁) x (length es) t₁ r t' → Rebuilt (codes_asked x n t₁) x n t₁ r t'
     unfolding codes_asked
     with_codes r t' told =
         yes_to 4 (all_fit xs) (room_asked x n t₁) x n t₁ r t' (in_range_fit xs good) (subst (λ (m : ℕ). Rebuilt (room_asked x m t₁) x m t₁ r t') as_long told)
-
--- The same for the places that are lent for n entries, m of them.
-pub rebuilt_lent : (x : Settings) (n m : ℕ) (t : Tables) (r : ℕ) (t' : Tables) → n ≡ m → Rebuilt (codes_asked x m t) x m t r t' → Rebuilt (codes_asked x n t) x n t r t'
-rebuilt_lent x n m t r t' lent told = subst (λ (k : ℕ). Rebuilt (codes_asked x k t) x k t r t') (sym lent) told
 
 -- The same for words that are given by an equation.
 pub rebuilt_as : (x : Settings) (n : ℕ) (us ws os : List ℕ) (r : ℕ) (t' : Tables) → us ≡ ws → Rebuilt (codes_asked x n (pair us os)) x n (pair us os) r t'

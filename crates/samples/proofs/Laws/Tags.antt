@@ -3,7 +3,7 @@ use Prim.Native.Nat.{ℕ, suc, ◌+◌, ◌-◌, ◌≤◌, ◌<◌}
 use mathlib.Core.Bool.{Bool, true, false, not}
 use mathlib.Core.List.{List, [], ◌∷◌}
 use mathlib.Core.Path.{◌≡◌, refl, sym, ap, ◌∙◌}
-use native.Mathlib.Nat.{sub-zero, zero-add, add-zero}
+use native.Mathlib.Nat.{add-zero}
 use native.Mathlib.Omega.{arith}
 use borrow.Author.Tests.{lt-ltb, le-ltb, ltb-true, ltb-false, leb-true, leb-false, eq-eqb, ne_eqb, eqb-true}
 use Rattle.std.specs.Prelude.{Option, None, Some}
@@ -125,14 +125,6 @@ module _ (t : ℕ) where
 pub record Passed (ws : List ℕ) (n t i : ℕ) : Type 0 where
   pub most : i ≤ n
   pub place : row_of_tag t (samples_from current ws 0 n) ≡ i + row_of_tag t (samples_from current ws i (n - i))
-
--- None yet.
-pub passed_none : (ws : List ℕ) (n t : ℕ) → Passed ws n t 0
-passed_none ws n t =
-    record {
-      most = omega arith;
-      place = ap (λ (k : ℕ). row_of_tag t (samples_from current ws 0 k)) (sym (sub-zero n)) ∙ sym (zero-add _);
-    }
 
 module _ {ws : List ℕ} {n t i : ℕ} (p : Passed ws n t i) where
   -- The row that is met is the first of those that are left.

@@ -5,7 +5,7 @@ use mathlib.Core.Path.{◌≡◌, refl, sym, ap, ◌∙◌}
 use native.Mathlib.Numerals.{add-one}
 use native.Mathlib.Omega.{arith}
 use lib.ListN.{length, take, drop, get_or, set, length-append}
-use lib.Seq.{take_all, take-suc, length-take-le}
+use lib.Seq.{take-suc, length-take-le}
 use Rattle.sheet.specs.Column.{newline, column_of}
 use Rattle.sheet.specs.Line.{tag_columns}
 use Rattle.sheet.specs.Steps.{put_at}
@@ -62,13 +62,6 @@ module _ (tags text₀ : List ℕ) (i : ℕ) (here : i < length tags) where
       ∙ put_next (tag_lines (take i tags)) text₀ (11 * i) size line
       ∙ ap (λ (l : List ℕ). l ++ drop (11 * i + length line) text₀) (sym more)
       ∙ ap (λ (k : ℕ). tag_lines (take (i + 1) tags) ++ drop k text₀) past
-
--- All lines.
-pub tags_all : (tags text₀ text : List ℕ) (i : ℕ) → length tags ≤ i → text ≡ tag_lines (take i tags) ++ drop (11 * i) text₀ → i ≤ length tags
-    → text ≡ tag_lines tags ++ drop (11 * length tags) text₀
-tags_all tags text₀ text i end e h =
-    let all : i ≡ length tags = omega arith in
-    e ∙ ap (λ (l : List ℕ). tag_lines l ++ drop (11 * i) text₀) (take_all i tags end) ∙ ap (λ (k : ℕ). tag_lines tags ++ drop (11 * k) text₀) all
 
 -- A refusal's line.
 pub refusal_length : (n : ℕ) → length (refused_line n) ≡ 11

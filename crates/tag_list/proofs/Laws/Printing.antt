@@ -11,7 +11,7 @@ use Rattle.model.specs.Tables.{Tables}
 use Rattle.model.specs.Queries.{tag_of}
 use Rattle.model.specs.Machine.{Outcome, Change, Load, with_set, step, next_state}
 use Rattle.model.specs.Walklist.{walklist_start, tag_lines, refused_line, printed_after, walklist_prints}
-use Rattle.words.proofs.Laws.Clipped.{take_clipped}
+use Rattle.std.proofs.lemmas.List.{take_min}
 use Rattle.tag_list.specs.Printed.{Printed, OrderPrinted, SheetLoaded}
 use Rattle.tag_list.proofs.Laws.Lines.{lines_length, refusal_length}
 use Rattle.tag_list.proofs.Laws.Order.{Ordered}
@@ -23,7 +23,7 @@ printed_within {bytes} {before} {after} {n} p = omega (arith, p.count, ap length
 
 -- A sheet that is cut where the input ends, or at 32,768 bytes.
 pub cut_loaded : (input : List ℕ) (k n : ℕ) (t : Tables) → k ≡ min 32768 (length input) → SheetLoaded (take k input) n t → SheetLoaded (take 32768 input) n t
-cut_loaded input k n t e h = subst (λ (sheet : List ℕ). SheetLoaded sheet n t) (ap (λ (i : ℕ). take i input) e ∙ take_clipped 32768 input) h
+cut_loaded input k n t e h = subst (λ (sheet : List ℕ). SheetLoaded sheet n t) (ap (λ (i : ℕ). take i input) e ∙ take_min 32768 input) h
 
 -- Lines of the tags of the order.
 pub order_printed : (t : Tables) (listing before after : List ℕ) (n : ℕ) → Ordered t listing n

@@ -7,15 +7,12 @@ use Rattle.colour.specs.Steps.{share, limit_of, halves_of}
 use Rattle.colour.proofs.Laws.Halves.{mask_overlaps}
 use Rattle.colour.proofs.overlap.box_overlapping.Goals as goal
 
-pub returns : goal.returns
+pub returns-clause-is : goal.returns-clause-is
 unfolding code_in share limit_of halves_of
-returns c =
-    record {
-      is = mask_overlaps (Box _ _) _ _
-          (search rules)
-          (search rules)
-          (search rules)
-          refl
-          c.mask.ensures.is;
-      bounded = c.mask.ensures.bounded;
-    }
+returns-clause-is c =
+    mask_overlaps (Box _ _) _ _
+    (search rules)
+    (search rules)
+    (search rules)
+    refl
+    c.mask.ensures.is

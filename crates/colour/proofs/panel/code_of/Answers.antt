@@ -3,7 +3,7 @@ use mathlib.Core.Path.{◌≡◌, sym, ap, ◌∙◌, subst}
 use mathlib.Core.Bool.{false, not, true≢false}
 use Prim.Native.Nat.{ℕ, ◌+◌, ◌/◌, ◌^◌, ◌-◌, ◌<◌}
 use native.Mathlib.Omega.{arith}
-use lib.Bits.{and_mask, mask_lt}
+use lib.Bits.{and_mask}
 use lib.Dec.{T}
 use lib.Ieee.{Float, nan, inf, fin, binary32, fits, is_nan, ne, to_bits}
 use lib.Ieee.Compare.{differs_from_itself, nan_differs}
@@ -57,10 +57,6 @@ returns-then-exponent-twos c =
 pub returns-then-exponent-lt111 : goal.returns-then-exponent-lt111
 returns-then-exponent-lt111 c =
     sym (too_low c.args.v (held (goal.at.returns-then-exponent-lt111 c).Start) c.args.twos c.requires c.if-exponent-lt111.true)
-
-pub overflow_add-result : goal.overflow_add-result
-overflow_add-result c =
-    omega (arith, mask_lt (to_bits binary32 c.args.v) 23)
 
 pub returns : goal.returns
 returns c =

@@ -21,7 +21,7 @@ module _ {v : Visit} {lent lent' : Lent.Tally} {listing listing' : List ℕ} (fr
   none_before : lent.listed ≡ 0
   none_before = ap (λ (t : Lent.Tally). t.listed) fresh
 
-  pub counted_all : lent'.listed ≡ length v.tags
+  counted_all : lent'.listed ≡ length v.tags
   counted_all = ap (λ (t : Lent.Tally). t.listed) d.tally ∙ ap (λ (n : ℕ). n + length v.tags) none_before ∙ zero-add (length v.tags)
 
   after : tally_in lent' ≡ v.after

@@ -1,12 +1,11 @@
 -- On any words at all a pass enters no more octants than the octant table counts and has, and visits no more samples than the sample table counts
 -- and has: a hostile table costs no more than a full one.
 use Prim.Native.Nat.{ℕ, zero, suc, ◌+◌, ◌-◌, ◌^◌, ◌≤◌, ◌<◌}
-use mathlib.Core.Bool.{Bool, true, false, ◌&&◌}
+use mathlib.Core.Bool.{Bool, true, false, ◌&&◌, and-eq-true_iff}
 use mathlib.Core.List.{List}
 use mathlib.Core.Path.{◌≡◌, refl}
 use native.Mathlib.Omega.{arith}
 use borrow.Author.Tests.{leb-true, ltb-true}
-use mathlib.Core.Bool.{and-eq-true_iff}
 use lib.Dec.{leb, ltb}
 use lib.ListN.{length, length-append}
 use Rattle.colour.specs.Channels.{Colour}

@@ -2,7 +2,7 @@
 use Prim.Native.Nat.{ℕ, ◌+◌, ◌≤◌, ◌<◌}
 use mathlib.Core.Bool.{Bool, true, false}
 use mathlib.Core.List.{List, [], ◌∷◌}
-use mathlib.Core.Path.{◌≡◌, refl, ap, ◌∙◌}
+use mathlib.Core.Path.{◌≡◌, ap, ◌∙◌}
 use native.Mathlib.Numerals.{add-one}
 use native.Mathlib.Omega.{arith}
 use lib.ListN.{length, set}
@@ -23,9 +23,6 @@ module _ (ws : List ℕ) (R : Region) (whole : Bool) (first count start : ℕ) (
     pub place : end + length (tags_of ws R whole ahead) ≡ start + length (tags_of ws R whole (rows_from ws count first))
     pub passed : seen + length ahead ≡ length (rows_from ws count first)
     pub most : end ≤ start + seen
-
-  pub following_begins : {ahead : List ℕ} → ahead ≡ rows_from ws count first → Following before ahead 0 start
-  following_begins e = rw e (record { tags = refl; place = refl; passed = omega arith; most = omega arith })
 
   module _ {listing ahead : List ℕ} {seen end : ℕ} (g : Following listing ahead seen end) where
     -- Nothing is left.

@@ -8,7 +8,7 @@ use native.Mathlib.Nat.{add-zero}
 use native.Mathlib.Omega.{arith}
 use lib.Dec.{leb, ltb}
 use lib.ListN.{length, length-append}
-use lib.Seq.{sets, length-sets}
+use lib.Seq.{sets}
 use Rattle.colour.specs.Channels.{Colour}
 use Rattle.colour.specs.declared.Region.{Region}
 use Rattle.colour.specs.Octant.{children, child_low}
@@ -29,10 +29,7 @@ sets_append : (l : List ℕ) (i : ℕ) (a b : List ℕ) → sets l i (a ++ b) �
 sets_append l i [] b = ap (λ (k : ℕ). sets l k b) (sym (add-zero i))
 sets_append l i (x ∷ a) b = sets_append _ (suc i) a b ∙ ap (λ (k : ℕ). sets (sets l i (x ∷ a)) k b) (omega arith)
 
--- A visit that was made keeps the listing's length, and leaves a tally within the bounds.
-pub visited_long : {v : Visit} {lent lent' : Lent.Tally} {listing listing' : List ℕ} → Visited v lent listing lent' listing' → length listing' ≡ length listing
-visited_long {v} {lent} {lent'} {listing} d = ap length d.tags ∙ length-sets listing lent.listed v.tags
-
+-- A visit that was made leaves a tally within the bounds.
 module _ {ws os : List ℕ} {lent : Lent.Tally} (c : Counting ws os lent) where
   pub visited_counting : {v : Visit} {lent' : Lent.Tally} {listing listing' : List ℕ}
       → Bounded (sample_budget current ws) (octant_limit current os) (tally_in lent) v → Visited v lent listing lent' listing' → Counting ws os lent'

@@ -6,7 +6,7 @@ use lib.ListN.{length, set}
 use Rattle.model.specs.Layout.{current, sample_rows}
 use Rattle.traversal.specs.Rows.{rows_left}
 use Rattle.traversal.proofs.Laws.Rows.{given_row}
-use Rattle.listing.proofs.Laws.Steps.Following.{following_begins, following_ends, more, not_listed, is_listed}
+use Rattle.listing.proofs.Laws.Steps.Following.{following_ends, more, not_listed, is_listed}
 use Rattle.listing.proofs.follow.follow.Goals as goal
 use Rattle.listing.proofs.follow.follow.Goals.{In-Some}
 
@@ -14,9 +14,6 @@ in_table : (c : In-Some) → c.in-Some.row < sample_rows current (length c.args.
 in_table c =
     given_row c.args.samples.now c.args.count c.args.first c.into_iter-row-iterator.result (ap rows_left c.into_iter-row-iterator.ensures.into_iter_gives ∙ c.rows_from-row-items.ensures)
     c.loop-row.yielded c.loop-row.row-iterator c.loop-row.yielded_by c.next.result c.next.new.self c.in-Some.row c.in-Some.is c.next.ensures.steps
-
-pub loop-row-init : goal.loop-row-init
-loop-row-init c = following_begins _ _ _ _ _ _ _ (ap rows_left c.into_iter-row-iterator.ensures.into_iter_gives ∙ c.rows_from-row-items.ensures)
 
 pub overflow_add-seen : goal.overflow_add-seen
 overflow_add-seen c = omega (arith, more _ _ _ _ _ _ _ c.loop-row.invariant c.in-Some.ensures.steps)

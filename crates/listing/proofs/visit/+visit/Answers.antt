@@ -9,7 +9,7 @@ use Rattle.traversal.specs.Places.{children_in}
 use Rattle.traversal.specs.declared.children.Children.{Children}
 use Rattle.traversal.proofs.Laws.Places.{NextChild}
 use Rattle.listing.specs.Steps.{tally_in, Counting}
-use Rattle.listing.proofs.Laws.Steps.Turning.{meets, allowed, allowed_is, turning_begins, turning_ends, turning_barred, turning_visited, turning_counting, is_first, visited_long}
+use Rattle.listing.proofs.Laws.Steps.Turning.{meets, allowed, allowed_is, turning_begins, turning_ends, turning_barred, turning_visited, turning_counting, is_first}
 use Rattle.traversal.proofs.Laws.Cubes.{limit_rows, child_depth}
 use Rattle.listing.proofs.Laws.Steps.Visiting.{allowed_row, entered_counting, own_visited, deep, turns_visited, mask_is, child_visited}
 use Rattle.listing.proofs.visit.+visit.Goals as goal
@@ -45,21 +45,12 @@ permitted t c =
     allowed_is _ _ _ _ _ _ c.loop-k.invariant c.in-Some.ensures.steps _ _ _ c.octant_child-next.ensures
     c.octant_limit-limit.ensures c.may_enter.ensures
 
-pub enter-requires : goal.enter-requires
-enter-requires t c =
-    let k = c.requires.counting in
-    (omega (arith, k.limits.entered, c.requires.next_bound), omega (arith, k.small, c.requires.next_bound))
-
-pub inside-whole-requires : goal.inside-whole-requires
-inside-whole-requires t c = c.requires.within
-
 pub ends-requires : goal.ends-requires
 unfolding depths
 ends-requires t c = (limit_rows _ _ c.requires.next_bound.1, c.requires.within.depth)
 
-pub own_samples-requires : goal.own_samples-requires
-own_samples-requires t c =
-    record { counting = after_enter t (goal.at.own_samples-requires t c).After-enter; row_bound = c.requires.next_bound.1 }
+pub own_samples-requires-clause-counting : goal.own_samples-requires-clause-counting
+own_samples-requires-clause-counting t c = after_enter t (goal.at.own_samples-requires-clause-counting t c).After-enter
 
 pub returns-then-ends : goal.returns-then-ends
 returns-then-ends t c =
@@ -67,9 +58,8 @@ returns-then-ends t c =
     own_visited _ _ _ _ _ _ _ p.within p.counting p.next_bound.0 p.next_bound.1 c.enter.ensures c.inside-whole.result c.ends.result
     c.inside-whole.ensures c.ends.ensures c.if-ends.true c.own_samples.ensures
 
-pub parent_of-parent-requires : goal.parent_of-parent-requires
-parent_of-parent-requires t c =
-    record { within = c.requires.within; deep = deep_at t (goal.at.parent_of-parent-requires t c).Else-ends }
+pub parent_of-parent-requires-clause-deep : goal.parent_of-parent-requires-clause-deep
+parent_of-parent-requires-clause-deep t c = deep_at t (goal.at.parent_of-parent-requires-clause-deep t c).Else-ends
 
 pub loop-k-init : goal.loop-k-init
 loop-k-init t c =
@@ -104,9 +94,6 @@ loop-k-preserved t c =
     let at = goal.at.loop-k-preserved t c in
     turning_barred _ _ _ _ _ _ c.loop-k.invariant c.in-Some.ensures.steps
     (permitted t at.After-may_enter ∙ c.if-may_enter.false)
-
-pub shape_of-listing : goal.shape_of-listing
-shape_of-listing t c = visited_long c.loop-k.invariant.visited
 
 pub returns : goal.returns
 returns t c =

@@ -6,9 +6,8 @@ use Rattle.listing.proofs.Laws.Steps.Visiting.{own_start, own_room, own_counted}
 use Rattle.traversal.proofs.Laws.Rows.{budget_most}
 use Rattle.listing.proofs.visit.own_samples.Goals as goal
 
-pub most-most-requires : goal.most-most-requires
-most-most-requires c =
-    record { row_bound = limit_rows _ _ c.requires.row_bound; visited_bound = c.requires.counting.limits.visited }
+pub most-most-requires-clause-row_bound : goal.most-most-requires-clause-row_bound
+most-most-requires-clause-row_bound c = limit_rows _ _ c.requires.row_bound
 
 pub octant_first-requires : goal.octant_first-requires
 octant_first-requires c =

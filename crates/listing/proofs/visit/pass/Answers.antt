@@ -1,13 +1,12 @@
 -- `visit::pass`: the root is visited, or nothing is.
 use native.Mathlib.Omega.{arith}
-use Rattle.listing.proofs.Laws.Steps.Visiting.{allowed_row}
 use Rattle.listing.proofs.Laws.Steps.Passing.{pass_within, fresh_counting, root_barred, root_apart, root_visited}
 use Rattle.listing.proofs.visit.pass.Goals as goal
 
-pub visit-requires : goal.visit-requires
-visit-requires c =
+pub visit-requires-clause-counting : goal.visit-requires-clause-counting
+visit-requires-clause-counting c =
     let l = c.octant_limit-limit in
-    let r = allowed_row _ _ _ _ _ c.may_enter.ensures c.if-may_enter.true l.ensures in record { within = c.root-all.ensures.within; counting = fresh_counting _ _ c.args.region.now _ c.requires.blank (omega (arith, l.ensures, l.type_inv)); next_bound = r }
+    fresh_counting _ _ c.args.region.now _ c.requires.blank (omega (arith, l.ensures, l.type_inv))
 
 pub returns-then-overlaps : goal.returns-then-overlaps
 returns-then-overlaps c =

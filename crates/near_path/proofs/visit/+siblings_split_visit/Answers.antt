@@ -1,22 +1,19 @@
 -- `visit::visit`, `visit::split` and `visit::siblings`: the closest child first, then the siblings that are still close enough; the search is the
 -- definition's.
 use Prim.Native.Nat.{ℕ, ◌<◌}
-use mathlib.Core.List.{List}
 use mathlib.Core.Path.{◌≡◌, sym, ap, ap₂, ◌∙◌, subst}
 use Rattle.colour.specs.declared.Cube.{Cube}
 use native.Mathlib.Omega.{arith}
 use Rattle.colour.specs.declared.Probe.{Probe}
 use Rattle.colour.specs.Octant.{depths}
-use Rattle.traversal.specs.Squares.{Squares}
 use Rattle.traversal.specs.declared.spot.Spot.{Spot}
 use Rattle.traversal.specs.declared.spot.Fork.{Fork}
-use Rattle.traversal.specs.Nearby.{turn_within, far_of, SmallSquares}
+use Rattle.traversal.specs.Nearby.{far_of, SmallSquares}
 use Rattle.traversal.specs.Children.{child_at}
 use Rattle.traversal.specs.Places.{children_in}
 use Rattle.traversal.specs.declared.children.Children.{Children}
 use Rattle.traversal.specs.Search.{Searching, search_entering, own_search}
 use Rattle.traversal.specs.Spot.{Stood, Forked, fork_of, turn_at, siblings_at, split_at}
-use Rattle.traversal.proofs.Laws.Places.{NextChild}
 use Rattle.traversal.proofs.Laws.Cubes.{limit_rows}
 use Rattle.traversal.proofs.Laws.Nearby.{sum_is, sum_fits}
 use Rattle.traversal.proofs.Laws.Search.Keeps.{entering_within, still_ready}
@@ -25,34 +22,24 @@ use Rattle.traversal.proofs.Laws.Search.Spots.{Told, turn_told, told_barred, tol
 use Rattle.traversal.proofs.Laws.Search.Path.{Siblings, turning_begins, next_is, turning_barred, turning_visited, turning_ends}
 use Rattle.near_path.specs.Best.{Kept, bests}
 use Rattle.traversal.specs.Steps.{SearchReady}
-use Rattle.near_path.specs.declared.best.Search.{Search}
 use Rattle.near_path.specs.Steps.{search_as, search_in, search_after}
 use Rattle.near_path.proofs.Laws.Closer.{best_steady, best_beyond}
 use Rattle.near_path.proofs.Laws.Starting.{lent_ready}
 use Rattle.near_path.proofs.visit.+siblings_split_visit.Goals as goal
-use Rattle.near_path.proofs.visit.+siblings_split_visit.Goals.{siblings-In-Some, siblings-After-reaches, split-After-reaches, split-Joined-reaches, split-then-reaches, split-else-reaches, visit-After-enter}
-
--- What is known of the siblings when the loop begins.
-known : (ws : List ℕ) (lent : Search) {p : Probe} {spot : Spot} {fork : Fork} {far : Squares} → Forked p spot fork → far ≡ far_of p fork.half spot.cube.low
-    → Siblings (bests ws p) p spot fork far (search_in lent).kept.distance (search_in lent)
-known ws lent f e =
-    record { forked = f; far_is = e; beyond = best_beyond (search_in lent).kept; steady = best_steady _ _ }
+use Rattle.near_path.proofs.visit.+siblings_split_visit.Goals.{siblings-After-far_of-far, siblings-After-reaches, split-After-reaches, split-Joined-reaches, split-then-reaches, split-else-reaches, visit-After-enter}
 
 -- What the far halves add, by the octant itself.
-far_is : (p : Probe) (half half' : ℕ) (cube cube' : Cube) {far : Squares} → far ≡ far_of p half' cube'.low → half' ≡ half → cube' ≡ cube
-    → far ≡ far_of p half cube.low
-far_is p half half' cube cube' e h c = e ∙ ap₂ (λ (s : ℕ) (x : Cube). far_of p s x.low) h c
+far_is : (t : ℕ) (c : siblings-After-far_of-far t) → c.far_of-far.result ≡ far_of c.args.p c.args.fork.half c.args.spot.cube.low
+far_is t c = c.far_of-far.ensures ∙ ap₂ (λ (s : ℕ) (x : Cube). far_of c.args.p s x.low) c.parent_at.ensures.half c.parent_at.ensures.cube
 
-turning : (t : ℕ) (c : siblings-In-Some t) → SearchReady c.args.tables.now.samples.now c.args.tables.now.octants.now (search_in c.loop-turn.search)
-turning t c = still_ready c.requires.ready c.loop-turn.invariant.limits
+-- What is known of the siblings when the loop begins.
+known : (t : ℕ) (c : siblings-After-far_of-far t)
+    → Siblings (bests c.args.tables.now.samples.now c.args.p) c.args.p c.args.spot c.args.fork c.far_of-far.result (search_in c.args.search.now).kept.distance
+    (search_in c.args.search.now)
+known t c =
+    record { forked = c.requires.forked.0; far_is = far_is t c; beyond = best_beyond (search_in c.args.search.now).kept; steady = best_steady _ _ }
 
--- The sibling that is next, and what is told of its turn.
-found : (t : ℕ) (c : siblings-In-Some t)
-    → NextChild (turn_within (search_in c.args.search.now).kept.distance c.args.spot.near c.far_of-far.result) c.loop-turn.invariant.done c.in-Some.turn
-    (children_in c.next.new.self.left)
-found t c =
-    next_is (known c.args.tables.now.samples.now c.args.search.now c.requires.forked.0 (far_is c.args.p _ _ c.args.spot.cube _ c.far_of-far.ensures c.parent_at.ensures.half c.parent_at.ensures.cube)) c.loop-turn.invariant c.in-Some.ensures.steps
-
+-- What is told of the turn of the sibling that is next.
 told : (t : ℕ) (c : siblings-After-reaches t)
     → Told (bests c.args.tables.now.samples.now c.args.p) c.args.tables.now.samples.now c.args.tables.now.octants.now c.args.p c.args.row c.args.spot c.in-Some.turn
     (search_in c.loop-turn.search) c.child_at-next.result c.sibling_spot-to.result c.reaches.result
@@ -61,7 +48,7 @@ told t c =
     (c.sum.ensures ∙ sum_is _) c.octant_limit-limit.ensures (c.reaches.ensures c.args.tables.now.samples.now c.args.p)
 
 pub siblings-turns-requires : goal.siblings-turns-requires
-siblings-turns-requires t c = far_rising c.requires.forked.0 (far_is c.args.p _ _ c.args.spot.cube _ c.far_of-far.ensures c.parent_at.ensures.half c.parent_at.ensures.cube)
+siblings-turns-requires t c = far_rising c.requires.forked.0 (far_is t (goal.at.siblings-turns-requires t c).After-far_of-far)
 
 pub siblings-loop-turn-init : goal.siblings-loop-turn-init
 siblings-loop-turn-init t c =
@@ -71,7 +58,7 @@ siblings-loop-turn-init t c =
 
 pub siblings-child_at-next-requires : goal.siblings-child_at-next-requires
 siblings-child_at-next-requires t c =
-    let f = found t (goal.at.siblings-child_at-next-requires t c).In-Some in
+    let f = next_is (known t (goal.at.siblings-child_at-next-requires t c).After-far_of-far) c.loop-turn.invariant c.in-Some.ensures.steps in
     (limit_rows _ _ c.requires.forked.1, kid_small c.requires.forked.0 _ f.below)
 
 pub siblings-sum-requires : goal.siblings-sum-requires
@@ -84,23 +71,23 @@ siblings-visit-requires t c =
     let f = c.requires.forked.0 in
     let d = subst (Told _ _ _ _ _ _ _ _ _ _) c.if-reaches.true (told t at.After-reaches) in (
       omega (arith, c.decreases, told_depth d f, f.deep),
-      ((told_stood d f, (told_room d).0), (turning t at.In-Some, (told_room d).1)),
+      ((told_stood d f, (told_room d).0), (still_ready c.requires.ready c.loop-turn.invariant.limits, (told_room d).1)),
     )
 
 pub siblings-loop-turn-preserved-then-reaches : goal.siblings-loop-turn-preserved-then-reaches
 siblings-loop-turn-preserved-then-reaches t c =
     let at = goal.at.siblings-loop-turn-preserved-then-reaches t c in
-    turning_visited (known c.args.tables.now.samples.now c.args.search.now c.requires.forked.0 (far_is c.args.p _ _ c.args.spot.cube _ c.far_of-far.ensures c.parent_at.ensures.half c.parent_at.ensures.cube)) c.loop-turn.invariant c.in-Some.ensures.steps (subst (Told _ _ _ _ _ _ _ _ _ _) c.if-reaches.true (told t at.After-reaches)) (ap search_in c.visit.ensures)
+    turning_visited (known t at.After-far_of-far) c.loop-turn.invariant c.in-Some.ensures.steps (subst (Told _ _ _ _ _ _ _ _ _ _) c.if-reaches.true (told t at.After-reaches)) (ap search_in c.visit.ensures)
 
 pub siblings-loop-turn-preserved : goal.siblings-loop-turn-preserved
 siblings-loop-turn-preserved t c =
     let at = goal.at.siblings-loop-turn-preserved t c in
-    turning_barred (known c.args.tables.now.samples.now c.args.search.now c.requires.forked.0 (far_is c.args.p _ _ c.args.spot.cube _ c.far_of-far.ensures c.parent_at.ensures.half c.parent_at.ensures.cube)) c.loop-turn.invariant c.in-Some.ensures.steps (subst (Told _ _ _ _ _ _ _ _ _ _) c.if-reaches.false (told t at.After-reaches))
+    turning_barred (known t at.After-far_of-far) c.loop-turn.invariant c.in-Some.ensures.steps (subst (Told _ _ _ _ _ _ _ _ _ _) c.if-reaches.false (told t at.After-reaches))
 
 pub siblings-returns : goal.siblings-returns
 siblings-returns t c =
     ap search_as
-    (turning_ends (known c.args.tables.now.samples.now c.args.search.now c.requires.forked.0 (far_is c.args.p _ _ c.args.spot.cube _ c.far_of-far.ensures c.parent_at.ensures.half c.parent_at.ensures.cube)) c.loop-turn.invariant c.in-None.ensures.steps.0)
+    (turning_ends (known t (goal.at.siblings-returns t c).After-far_of-far) c.loop-turn.invariant c.in-None.ensures.steps.0)
 
 -- Where the children of an octant are gone through.
 parted : {p : Probe} {spot : Spot} {fork : Fork} → (Stood p spot) × (spot.cube.depth < 16) → fork ≡ fork_of p spot.cube → Forked p spot fork

@@ -11,11 +11,10 @@ use lib.Dec.{ltb}
 use lib.ListN.{length}
 use Rattle.colour.specs.Channels.{Colour}
 use Rattle.colour.specs.declared.Cube.{Cube}
-use Rattle.colour.specs.Nearby.{Gaps}
+use Rattle.colour.specs.Nearby.{Gaps, closest_child, gaps_of, closest_by}
 use Rattle.colour.specs.Colour.{black, distance}
 use Rattle.colour.specs.Octant.{depths, side_at, children, child_low, child_cube}
 use Rattle.colour.specs.Region.{closest}
-use Rattle.colour.specs.Nearby.{closest_child, gaps_of, closest_by}
 use Rattle.colour.proofs.Laws.Nearby.{closest_by_lem}
 use Rattle.model.specs.Layout.{Count, Child, current}
 use Rattle.words.specs.Rows.{settings_in, octant_field, octant_limit, sample_budget}

@@ -34,16 +34,12 @@ first_is t c = c.closest_child-first.ensures.is ∙ ap (λ (x : Cube). closest_c
 gaps_are : (t : ℕ) (c : After-gaps_of-gaps t) → c.gaps_of-gaps.result ≡ gaps_of c.args.centre.now c.parent_of-parent.result.half c.args.cube.low
 gaps_are t c = c.gaps_of-gaps.ensures.is ∙ ap (λ (x : Cube). gaps_of c.args.centre.now c.parent_of-parent.result.half x.low) c.parent_of-parent.ensures
 
-pub enter-search-requires : goal.enter-search-requires
-enter-search-requires t c = omega (arith, c.requires.ready.small, c.requires.row_bound)
-
 pub ends-requires : goal.ends-requires
 unfolding depths
 ends-requires t c = (limit_rows _ _ c.requires.row_bound.0, c.requires.within.depth)
 
-pub own-requires : goal.own-requires
-own-requires t c =
-    record { ready = entered t (goal.at.own-requires t c).After-enter-search; row_bound = c.requires.row_bound.0 }
+pub own-requires-clause-ready : goal.own-requires-clause-ready
+own-requires-clause-ready t c = entered t (goal.at.own-requires-clause-ready t c).After-enter-search
 
 pub returns-then-ends : goal.returns-then-ends
 returns-then-ends t c =
@@ -51,9 +47,8 @@ returns-then-ends t c =
     ∙ ap (own_search _ _ _ _) c.enter-search.ensures
     ∙ sym (search_own _ _ _ _ _ _ _ (sym c.ends.ensures ∙ c.if-ends.true))
 
-pub parent_of-parent-requires : goal.parent_of-parent-requires
-parent_of-parent-requires t c =
-    record { within = c.requires.within; deep = deep_at t (goal.at.parent_of-parent-requires t c).Else-ends }
+pub parent_of-parent-requires-clause-deep : goal.parent_of-parent-requires-clause-deep
+parent_of-parent-requires-clause-deep t c = deep_at t (goal.at.parent_of-parent-requires-clause-deep t c).Else-ends
 
 pub loop-turn-init : goal.loop-turn-init
 loop-turn-init t c = turn_none _ _

@@ -69,11 +69,6 @@ slice_bounds-pass_all-end g t c = let i = c.loop-k.invariant in omega (arith, pa
 pub overflow_add-number-in-loop-k : goal.overflow_add-number-in-loop-k
 overflow_add-number-in-loop-k g t c = let i = c.loop-k.invariant in omega (arith, pass_bounds i.opened i.passed c.loop-k-test.true)
 
-pub overflow_add-at : goal.overflow_add-at
-overflow_add-at g t c =
-    let i = c.loop-k.invariant in
-    omega (arith, pass_bounds i.opened i.passed c.loop-k-test.true, c.octant_words.ensures.is, c.requires.within)
-
 pub pass_all-requires : goal.pass_all-requires
 pass_all-requires g t c κs within =
     let i = c.loop-k.invariant in

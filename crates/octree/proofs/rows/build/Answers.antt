@@ -1,12 +1,7 @@
 -- `rows::build`: what is passed is written.
 use Rattle.std.proofs.Common.{rules}
-use mathlib.Core.Path.{◌∙◌}
-use Rattle.octree.proofs.Laws.Rows.Ends.{ends_count, ends_written}
+use Rattle.octree.proofs.Laws.Rows.Ends.{ends_written}
 use Rattle.octree.proofs.rows.build.Goals as goal
-
-pub returns-clause-octants : goal.returns-clause-octants
-returns-clause-octants c =
-    c.unwrap_or.ensures ∙ ends_count c.args.bucket c.args.left c.args.number c.args.part.now c.pass_all.result c.pass_all.ensures.octants c.pass_all.ensures.rows.1
 
 pub returns-clause-rows : goal.returns-clause-rows
 returns-clause-rows c =

@@ -7,7 +7,7 @@ use Rattle.model.specs.SampleSet.{settings_good}
 use Rattle.model.specs.Sound.{long_enough}
 use Rattle.model.proofs.Tables.Numbers.{current_numbers}
 use Rattle.words.proofs.Laws.Layout.Places.{rows_few}
-use Rattle.octree.proofs.Laws.Tables.Check.{too_short, settings_out, rows_over, both_long, header_right, checked, places_first, places_few}
+use Rattle.octree.proofs.Laws.Tables.Check.{too_short, settings_out, rows_over, both_long, checked, places_first}
 use Rattle.octree.proofs.tables.check.Goals as goal
 
 pub returns-then-not-long_enough : goal.returns-then-not-long_enough
@@ -28,19 +28,6 @@ count-n-requires c =
 pub returns-then-sample_rows-n : goal.returns-then-sample_rows-n
 returns-then-sample_rows-n c =
     rows_over _ _ (omega (arith, c.sample_rows.ensures.is, c.count-n.ensures, c.if-sample_rows-n.true))
-
-pub slice_bounds-hold-end : goal.slice_bounds-hold-end
-slice_bounds-hold-end c =
-    places_first _ (omega (arith, rows_few (length c.args.samples.now), c.sample_rows.ensures.is, c.if-sample_rows-n.false))
-
-pub hold-requires : goal.hold-requires
-unfolding long_enough
-hold-requires c =
-    let n = c.count-n in
-    let few = rows_few (length c.args.samples.now) in
-    let small : n.result ≤ 4096 = omega (arith, few, c.sample_rows.ensures.is, c.if-sample_rows-n.false) in
-    header_right _ _ _ _ _ (sym c.long_enough.ensures ∙ c.if-not-long_enough.false) n.ensures c.settings-settings.ensures
-    (omega (arith, c.sample_rows.ensures.is, c.if-sample_rows-n.false)) (places_first _ small) _ (places_few n.result small)
 
 pub returns : goal.returns
 unfolding long_enough

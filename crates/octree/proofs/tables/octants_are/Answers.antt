@@ -3,16 +3,17 @@ use mathlib.Core.Path.{sym, ◌∙◌}
 use native.Mathlib.Omega.{arith}
 use Rattle.colour.specs.Octant.{depths}
 use Rattle.words.proofs.Laws.Layout.Places.{octants_first}
-use Rattle.octree.proofs.Laws.Tables.Octants.{fitting, told_end, whole_rooted, count_other, rows_other, octants_tell}
+use Rattle.octree.proofs.Laws.Tables.Octants.{Fitting, fitting, told_end, whole_rooted, count_other, rows_other, octants_tell}
 use Rattle.octree.proofs.tables.octants_are.Goals as goal
+use Rattle.octree.proofs.tables.octants_are.Goals.{Start}
+
+fits : (c : Start) → Fitting c.args.bucket c.args.ordered.now c.args.octants.now c.args.count
+unfolding depths
+fits c = fitting _ _ _ _ c.requires.0 c.requires.1 c.requires.3 c.requires.4
 
 pub returns-then-count : goal.returns-then-count
-unfolding depths
 returns-then-count c =
-    let a = c.args in
-    let p = c.requires in
-    let fits = fitting a.bucket a.ordered.now a.octants.now a.count p.0 p.1 p.3 p.4 in
-    count_other fits (λ e. c.if-count.true (c.count.ensures ∙ e))
+    count_other (fits (goal.at.returns-then-count c).Start) (λ e. c.if-count.true (c.count.ensures ∙ e))
 
 pub offset_bounds-octants-start : goal.offset_bounds-octants-start
 offset_bounds-octants-start c =
@@ -29,50 +30,32 @@ slice_bounds-compare-start c =
 pub compare-requires : goal.compare-requires
 unfolding depths
 compare-requires c =
-    let a = c.args in
-    let p = c.requires in
-    let fits = fitting a.bucket a.ordered.now a.octants.now a.count p.0 p.1 p.3 p.4 in
-    whole_rooted fits _ c.octant_start-start.ensures p.2
+    whole_rooted (fits (goal.at.compare-requires c).Start) _ c.octant_start-start.ensures c.requires.2
 
 pub returns-in_default : goal.returns-in_default
 unfolding depths
 returns-in_default c =
-    let a = c.args in
-    let p = c.requires in
-    let fits = fitting a.bucket a.ordered.now a.octants.now a.count p.0 p.1 p.3 p.4 in
-    rows_other fits c.octant_start-start.ensures c.compare.ensures
+    rows_other (fits (goal.at.returns-in_default c).Start) c.octant_start-start.ensures c.compare.ensures
     c.in_default.is
 
 pub offset_bounds-octants-from : goal.offset_bounds-octants-from
 unfolding depths
 offset_bounds-octants-from c =
-    let a = c.args in
-    let p = c.requires in
-    let fits = fitting a.bucket a.ordered.now a.octants.now a.count p.0 p.1 p.3 p.4 in
-    omega (arith, (told_end fits c.compare.ensures c.in-Some.is _ c.octant_start-from.ensures).small)
+    omega (arith, (told_end (fits (goal.at.offset_bounds-octants-from c).Start) c.compare.ensures c.in-Some.is _ c.octant_start-from.ensures).small)
 
 pub slice_bounds-are_zero-count : goal.slice_bounds-are_zero-count
 unfolding depths
 slice_bounds-are_zero-count c =
-    let a = c.args in
-    let p = c.requires in
-    let fits = fitting a.bucket a.ordered.now a.octants.now a.count p.0 p.1 p.3 p.4 in
-    (told_end fits c.compare.ensures c.in-Some.is _ c.octant_start-from.ensures).within
+    (told_end (fits (goal.at.slice_bounds-are_zero-count c).Start) c.compare.ensures c.in-Some.is _ c.octant_start-from.ensures).within
 
 pub slice_bounds-are_zero-start : goal.slice_bounds-are_zero-start
 unfolding depths
 slice_bounds-are_zero-start c =
-    let a = c.args in
-    let p = c.requires in
-    let fits = fitting a.bucket a.ordered.now a.octants.now a.count p.0 p.1 p.3 p.4 in
-    (told_end fits c.compare.ensures c.in-Some.is _ c.octant_start-from.ensures).within
+    (told_end (fits (goal.at.slice_bounds-are_zero-start c).Start) c.compare.ensures c.in-Some.is _ c.octant_start-from.ensures).within
 
 pub returns : goal.returns
 unfolding depths
 returns c =
-    let a = c.args in
-    let p = c.requires in
-    let fits = fitting a.bucket a.ordered.now a.octants.now a.count p.0 p.1 p.3 p.4 in
-    octants_tell fits c.octant_start-start.ensures c.compare.ensures
+    octants_tell (fits (goal.at.returns c).Start) c.octant_start-start.ensures c.compare.ensures
     c.in-Some.is (sym c.count.ensures ∙ c.if-count.false) _ c.octant_start-from.ensures c.are_zero.result
     c.are_zero.ensures

@@ -10,8 +10,7 @@ use Rattle.model.specs.Sound.{long_enough}
 use Rattle.nearest.specs.declared.best.Best.{Best}
 use Rattle.nearest.specs.Best.{best_answer}
 use Rattle.query.specs.Answers.{reply_answer, of_kind, raw_wanted}
-use Rattle.query.proofs.Laws.Asked.{asked_lists, asked_finds, of_kind_lem, refusal_kind}
-use Rattle.query.proofs.Laws.Asked.{short_named, refused_named, wanted_named, reply_meets}
+use Rattle.query.proofs.Laws.Asked.{asked_lists, asked_finds, of_kind_lem, refusal_kind, short_named, refused_named, wanted_named, reply_meets}
 use Rattle.query.proofs.ask.ask.Goals as goal
 
 pub returns-then-not-long_enough : goal.returns-then-not-long_enough

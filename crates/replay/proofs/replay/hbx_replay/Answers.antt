@@ -1,10 +1,10 @@
 -- `replay::hbx_replay`: after i turns the first i steps are made.
-use Prim.Native.Nat.{ℕ, ◌+◌, ◌-◌, ◌*◌, ◌^◌, ◌≤◌, ◌<◌}
+use Prim.Native.Nat.{◌-◌, ◌*◌, ◌^◌, ◌≤◌, ◌<◌}
 use mathlib.Core.Path.{◌≡◌, refl, ◌∙◌}
 use native.Mathlib.Omega.{arith}
 use borrow.Rule.Slice.PartMut.{same_len_mid}
 use lib.ListN.{length, take, drop, length-take, length-drop}
-use Rattle.replay.specs.Format.{step_width, answer_width}
+use Rattle.replay.specs.Format.{answer_width}
 use Rattle.replay.specs.Script.{steps_of}
 use Rattle.replay.proofs.Laws.Events.{begin, within, turn}
 use Rattle.replay.proofs.Laws.Steps.{lent_within}
@@ -12,71 +12,15 @@ use Rattle.replay.proofs.Laws.Day.{replayed}
 use Rattle.replay.proofs.replay.hbx_replay.Goals as goal
 use Rattle.replay.proofs.replay.hbx_replay.Goals.{In-loop-i}
 
--- Room for a step that is left, and lengths whose bytes can be counted.
-record Room (words floats answers listings i at : ℕ) : Type 0 where
-  in_words : step_width * i ≤ words
-  in_floats : step_width * i ≤ floats
-  in_answers : answer_width * i + answer_width ≤ answers
-  in_listings : at ≤ listings
-  few_words : words * 4 < 2 ^ 63
-  few_floats : floats * 4 < 2 ^ 63
-  few_answers : answers * 4 < 2 ^ 63
-  few_listings : listings * 4 < 2 ^ 63
-
-room : (c : In-loop-i)
-    → let a = c.args in
-    let l = c.loop-i in
-    Room (length a.script.now) (length a.floats.now) (length l.answers) (length l.listings) l.i l.at
+-- The listings so far are within the place for them, and its bytes can be counted.
+room : (c : In-loop-i) → (c.loop-i.at ≤ length c.loop-i.listings) × (length c.loop-i.listings * 4 < 2 ^ 63)
 room c =
-    let n = c.steps_of-steps.ensures in
     let l = c.loop-i.invariant in
-    let good = c.well_formed.1.1 in
-    record {
-      in_words = omega arith;
-      in_floats = omega arith;
-      in_answers = omega arith;
-      in_listings = within _ _ _ _ _ _ _ _ l.4;
-      few_words = good.0.1;
-      few_floats = good.1.0.1;
-      few_answers = omega (arith, l.3, good.1.1.1.1.0.1);
-      few_listings = omega (arith, l.2, good.1.1.1.0.1);
-    }
+    (within _ _ _ _ _ _ _ _ l.4, omega (arith, l.2, c.well_formed.1.1.1.1.1.0.1))
 
 pub loop-i-init : goal.loop-i-init
 loop-i-init c =
     (refl, refl, refl, refl, begin _ _ _)
-
-pub overflow_mul-from : goal.overflow_mul-from
-overflow_mul-from c =
-    omega (arith, room (goal.at.overflow_mul-from c).In-loop-i)
-
-pub overflow_mul-to : goal.overflow_mul-to
-overflow_mul-to c =
-    omega (arith, room (goal.at.overflow_mul-to c).In-loop-i)
-
-pub offset_bounds-script-from : goal.offset_bounds-script-from
-offset_bounds-script-from c =
-    omega (arith, room (goal.at.offset_bounds-script-from c).In-loop-i)
-
-pub slice_bounds-step-count : goal.slice_bounds-step-count
-slice_bounds-step-count c =
-    omega (arith, room (goal.at.slice_bounds-step-count c).In-loop-i)
-
-pub slice_bounds-step-start : goal.slice_bounds-step-start
-slice_bounds-step-start c =
-    omega (arith, room (goal.at.slice_bounds-step-start c).In-loop-i)
-
-pub offset_bounds-floats-from : goal.offset_bounds-floats-from
-offset_bounds-floats-from c =
-    omega (arith, room (goal.at.offset_bounds-floats-from c).In-loop-i)
-
-pub slice_bounds-step-count-in-loop-i : goal.slice_bounds-step-count-in-loop-i
-slice_bounds-step-count-in-loop-i c =
-    omega (arith, room (goal.at.slice_bounds-step-count-in-loop-i c).In-loop-i)
-
-pub slice_bounds-step-start-in-loop-i : goal.slice_bounds-step-start-in-loop-i
-slice_bounds-step-start-in-loop-i c =
-    omega (arith, room (goal.at.slice_bounds-step-start-in-loop-i c).In-loop-i)
 
 pub offset_bounds-listings-at : goal.offset_bounds-listings-at
 offset_bounds-listings-at c =
@@ -89,22 +33,6 @@ slice_bounds-step-count-in-loop-i-2 c =
 pub slice_bounds-step-start-in-loop-i-2 : goal.slice_bounds-step-start-in-loop-i-2
 slice_bounds-step-start-in-loop-i-2 c =
     omega (arith, room (goal.at.slice_bounds-step-start-in-loop-i-2 c).In-loop-i)
-
-pub offset_bounds-answers-to : goal.offset_bounds-answers-to
-offset_bounds-answers-to c =
-    omega (arith, room (goal.at.offset_bounds-answers-to c).In-loop-i)
-
-pub slice_bounds-step-count-in-loop-i-3 : goal.slice_bounds-step-count-in-loop-i-3
-slice_bounds-step-count-in-loop-i-3 c =
-    omega (arith, room (goal.at.slice_bounds-step-count-in-loop-i-3 c).In-loop-i)
-
-pub slice_bounds-step-start-in-loop-i-3 : goal.slice_bounds-step-start-in-loop-i-3
-slice_bounds-step-start-in-loop-i-3 c =
-    omega (arith, room (goal.at.slice_bounds-step-start-in-loop-i-3 c).In-loop-i)
-
-pub step-lent-requires : goal.step-lent-requires
-step-lent-requires c =
-    simp (length-take, length-drop) (omega (arith, room (goal.at.step-lent-requires c).In-loop-i))
 
 pub overflow_add-at : goal.overflow_add-at
 overflow_add-at c =
@@ -125,22 +53,6 @@ loop-i-preserved c =
       same_len_mid (answer_width * l.i) (length l.answers - answer_width * l.i) l.answers st.new.answers st.auto.answers ∙ l.invariant.3,
       turn _ _ _ l.i l.at l.listings l.answers _ l.invariant.4 st.result _ _ _ st.ensures,
     )
-
-pub shape_of-samples : goal.shape_of-samples
-shape_of-samples c =
-    c.loop-i.invariant.0
-
-pub shape_of-octants : goal.shape_of-octants
-shape_of-octants c =
-    c.loop-i.invariant.1
-
-pub shape_of-listings : goal.shape_of-listings
-shape_of-listings c =
-    c.loop-i.invariant.2
-
-pub shape_of-answers : goal.shape_of-answers
-shape_of-answers c =
-    c.loop-i.invariant.3
 
 pub returns : goal.returns
 unfolding steps_of

@@ -1,12 +1,6 @@
 -- `replay::step`: what the functions that it calls ensure.
-use native.Mathlib.Omega.{arith}
-use lib.ListN.{length-take}
 use Rattle.replay.proofs.Laws.Steps.{stepped}
 use Rattle.replay.proofs.replay.step.Goals as goal
-
-pub slice_bounds-call-end-2 : goal.slice_bounds-call-end-2
-slice_bounds-call-end-2 c =
-    simp length-take (omega (arith, c.lent_to-lent.ensures))
 
 pub returns : goal.returns
 returns c =

@@ -6,7 +6,7 @@ use lib.Dec.{leb}
 use mathlib.Core.List.{List, [], ◌∷◌, ◌++◌, append-nil}
 use Rattle.std.specs.Prelude.{None, Some}
 use mathlib.Core.Path.{◌≡◌, refl, sym, ap, ◌∙◌, subst}
-use native.Mathlib.Nat.{add-zero, add-suc, sub-zero}
+use native.Mathlib.Nat.{add-suc}
 use native.Mathlib.Numerals.{add-one}
 use native.Mathlib.Omega.{arith}
 use lib.ListN.{length, length-append}
@@ -36,13 +36,6 @@ pub record PutSoFar (ws : List ℕ) (n : ℕ) (sheet : List ℕ) (lines room : �
   pub all_rows : sample_rows current (length ws) ≡ n + room
   pub bytes : line_start lines ≤ length sheet
   pub rows : samples_from current ws' 0 (n + k) ++ good_from sheet lines room k ≡ samples_from current ws 0 n ++ good_all ws n sheet lines
-
--- Nothing is put at first.
-pub none_put : (ws : List ℕ) (n : ℕ) (sheet : List ℕ) (lines room : ℕ) → sample_rows current (length ws) ≡ n + room → line_start lines ≤ length sheet
-    → PutSoFar ws n sheet lines room ws 0
-none_put ws n sheet lines room e h =
-    let all : room - 0 ≡ sample_rows current (length ws) - n = omega (arith, e) in
-    record { same_length = refl; all_rows = e; bytes = h; rows = rw (add-zero n, all, sub-zero lines) }
 
 module _ {ws : List ℕ} {n : ℕ} {sheet : List ℕ} {lines room : ℕ} {ws' : List ℕ} {k : ℕ} (h : PutSoFar ws n sheet lines room ws' k) where
   -- Where no good line is left, the rows are as promised.
@@ -75,7 +68,7 @@ module _ {ws : List ℕ} {n : ℕ} {sheet : List ℕ} {lines room : ℕ} {ws' : 
   bad_line more bad = ends (rw (next_left sheet k lines more, ← bad) (good_bad (room - k) _))
 
   -- Where a row is left, it is the next.
-  pub next_row : k < room → n + k < sample_rows current (length ws')
+  next_row : k < room → n + k < sample_rows current (length ws')
   next_row left = omega (arith, h.all_rows, ap (sample_rows current) h.same_length)
 
   -- A good line is put in it.

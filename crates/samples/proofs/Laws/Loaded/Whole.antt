@@ -2,7 +2,7 @@
 -- which fits is kept, its tables are built, and the load says why it ends there.
 use Prim.Native.Nat.{ℕ, suc, ◌+◌, ◌-◌, ◌≤◌}
 use mathlib.Core.List.{List, [], ◌∷◌, ◌++◌, append-nil}
-use Rattle.std.specs.Prelude.{None, Some}
+use Rattle.std.specs.Prelude.{None, Some, Result, Err}
 use mathlib.Core.Path.{◌≡◌, sym, ap, ap₂, ◌∙◌, subst, subst⁻¹}
 use native.Mathlib.Nat.{zero-add, add-zero, add-suc}
 use native.Mathlib.Omega.{arith}
@@ -28,7 +28,6 @@ use Rattle.model.proofs.Machine.Step.{step_accepted}
 use Rattle.words.specs.Rows.{count_in, settings_in, samples_from}
 use Rattle.words.proofs.Laws.Layout.Samples.{samples_length, samples_take}
 use Rattle.octree.proofs.Laws.Tables.Check.{sample_length_lem, count_shown}
-use Rattle.std.specs.Prelude.{Result, Err}
 use Rattle.sheet.specs.Answers.{header_answer}
 use Rattle.samples.specs.Answers.{loaded_answer, before_lines}
 use Rattle.samples.specs.declared.answers.Stop.{Stop}

@@ -2,7 +2,6 @@
 use mathlib.Core.Path.{ap}
 use native.Mathlib.Omega.{arith}
 use lib.ListN.{length}
-use Rattle.model.specs.Layout.{current, sample_rows}
 use Rattle.words.proofs.Laws.Layout.Places.{rows_few}
 use Rattle.colour.specs.Refusal.{answer_number}
 use Rattle.samples.proofs.Laws.Meets.{changed_refused}
@@ -14,10 +13,6 @@ pub settings-settings-requires : goal.settings-settings-requires
 settings-settings-requires c =
     (headers_there _ _ c.requires.sound).0
 
-pub put_sample-requires : goal.put_sample-requires
-put_sample-requires c =
-    c.requires.row
-
 pub overflow_add-n : goal.overflow_add-n
 overflow_add-n c =
     omega (arith, c.requires.row, rows_few (length c.args.samples.now))
@@ -25,10 +20,6 @@ overflow_add-n c =
 pub rebuild-requires : goal.rebuild-requires
 rebuild-requires c =
     space_for _ _ c.requires.sound _ _ c.put_sample.auto.samples (omega (arith, c.requires.row))
-
-pub put_sample-requires-in_default : goal.put_sample-requires-in_default
-put_sample-requires-in_default c =
-    omega (arith, c.requires.row, ap (sample_rows current) c.rebuild.auto.samples, ap (sample_rows current) c.put_sample.auto.samples)
 
 pub returns-in_default : goal.returns-in_default
 returns-in_default c =

@@ -3,12 +3,8 @@ use native.Mathlib.Omega.{arith}
 use mathlib.Core.Path.{refl, sym, ◌∙◌}
 use Rattle.model.specs.Layout.{current}
 use Rattle.words.specs.Rows.{sample_in}
-use Rattle.samples.proofs.Laws.Tags.{passed_none, passed_to, passed_more, passed_all, row_there, row_missing}
+use Rattle.samples.proofs.Laws.Tags.{passed_to, passed_more, passed_all, row_there, row_missing}
 use Rattle.samples.proofs.find.row_of.Goals as goal
-
-pub loop-row-init : goal.loop-row-init
-loop-row-init c =
-    passed_none _ _ _
 
 pub loop-row-preserved : goal.loop-row-preserved
 unfolding sample_in

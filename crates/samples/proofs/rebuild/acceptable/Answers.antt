@@ -3,7 +3,7 @@ use Prim.Native.Nat.{◌≤◌}
 use native.Mathlib.Omega.{arith}
 use lib.ListN.{length}
 use Rattle.words.proofs.Laws.Layout.Places.{rows_few}
-use Rattle.octree.proofs.Laws.Tables.Check.{places_first, places_few}
+use Rattle.octree.proofs.Laws.Tables.Check.{places_first}
 use Rattle.samples.proofs.Laws.Accepted.{accepted_lent}
 use Rattle.samples.proofs.rebuild.acceptable.Goals as goal
 
@@ -14,11 +14,6 @@ slice_bounds-entries-end c =
 pub slice_bounds-rows_accepted-end : goal.slice_bounds-rows_accepted-end
 slice_bounds-rows_accepted-end c =
     places_first _ (omega (arith, rows_few (length c.args.samples.now), c.requires))
-
-pub rows_accepted-requires : goal.rows_accepted-requires
-rows_accepted-requires c =
-    let few : c.args.n ≤ 4096 = omega (arith, rows_few (length c.args.samples.now), c.requires) in
-    (omega (arith, c.requires, places_first c.args.n few), places_few c.args.n few)
 
 pub returns : goal.returns
 returns c =

@@ -1,22 +1,11 @@
 -- `rebuild::rows_accepted`: tags, codes, then octants.
-use mathlib.Core.Bool.{not}
-use mathlib.Core.Path.{sym, ap, ◌∙◌}
-use Rattle.std.specs.Result.{is_ok}
-use Rattle.colour.proofs.Laws.Refused.{err_not_ok, no_err_ok}
+use mathlib.Core.Path.{sym, ◌∙◌}
+use Rattle.colour.proofs.Laws.Refused.{no_err_ok}
 use native.Mathlib.Omega.{arith}
 use lib.ListN.{length}
 use Rattle.words.proofs.Laws.Layout.Places.{rows_few}
-use Rattle.samples.proofs.Laws.Accepted.{tag_twice, code_out, accepted_by}
+use Rattle.samples.proofs.Laws.Accepted.{accepted_by}
 use Rattle.samples.proofs.rebuild.rows_accepted.Goals as goal
-
-pub returns-then-not-all_apart : goal.returns-then-not-all_apart
-returns-then-not-all_apart c =
-    tag_twice _ _ c.args.octants _ c.all_apart.result (ap not c.if-not-all_apart.true) c.all_apart.ensures
-
-pub returns-then-is_err : goal.returns-then-is_err
-returns-then-is_err c =
-    code_out _ _ c.args.octants _ _ c.all_apart.auto.tags (is_ok c.fill.result) (err_not_ok c.fill.result (sym c.is_err.ensures.value ∙ c.if-is_err.true))
-    c.fill.ensures.made.complete
 
 pub judge-requires : goal.judge-requires
 judge-requires c = (

@@ -18,8 +18,7 @@ use Rattle.colour.proofs.Laws.Channels.{fit_codes}
 use Rattle.sheet.specs.declared.line.Line.{Line}
 use Rattle.sheet.specs.Answers.{line_answer}
 use Rattle.sheet.specs.Column.{blank, newline, trimmed}
-use Rattle.sheet.specs.Line.{blank_at, newline_at, line_length}
-use Rattle.sheet.specs.Line.{leading, name_good, name_field_good, line_from, name_columns, name_field, line_formed, line_numbers, line_of, line_asked}
+use Rattle.sheet.specs.Line.{blank_at, newline_at, line_length, leading, name_good, name_field_good, line_from, name_columns, name_field, line_formed, line_numbers, line_of, line_asked}
 use Rattle.sheet.specs.Steps.{within, name_length_in, greatest_tag, greatest_code}
 use Rattle.sheet.proofs.Laws.Reading.Digits.{within_yes, within_some}
 use Rattle.sheet.proofs.Laws.Text.{leading_twice, leading_most, trimmed_most}

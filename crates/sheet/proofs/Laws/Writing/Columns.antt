@@ -1,12 +1,12 @@
 -- A number written in its columns from the right (document 01, "Sheets").
 use Prim.Native.Nat.{ℕ, suc, ◌+◌, ◌-◌, ◌/◌, ◌%◌, ◌≤◌, ◌<◌}
-use mathlib.Core.List.{List, [], ◌∷◌, ◌++◌, append-nil, append_assoc}
+use mathlib.Core.List.{List, [], ◌∷◌, ◌++◌, append_assoc}
 use mathlib.Core.Path.{◌≡◌, sym, ap, ◌∙◌}
 use native.Mathlib.Numerals.{add-one}
 use native.Mathlib.Omega.{arith}
 use borrow.Author.Tests.{lt-ltb, le-ltb}
 use lib.ListN.{length, take, drop, set, replicate, length-append, length-set}
-use lib.Seq.{drop-length, length-take-le}
+use lib.Seq.{length-take-le}
 use Rattle.sheet.specs.Column.{blank, decimal, column_of}
 use Rattle.std.proofs.lemmas.List.{drop-set}
 
@@ -28,10 +28,7 @@ column_more w n h =
     rw (le-ltb n 10 h, decimal)
     (padded (tenth ++ digit) e ∙ sym (append_assoc (replicate (w - length tenth) blank) tenth digit))
 
--- Nothing is written yet, and all is.
-pub none_written : (column : List ℕ) (n : ℕ) → column_of (length column) n ≡ column_of (length column) n ++ drop (length column) column
-none_written column n = sym (rw drop-length (append-nil (column_of (length column) n)))
-
+-- All is written.
 pub all_written : (w n left i : ℕ) (column : List ℕ) → column_of w n ≡ column_of i left ++ drop i column → i ≤ 0 → column ≡ column_of w n
 unfolding column_of decimal
 all_written w n left i column so_far h = let e : i ≡ 0 = omega arith in sym (so_far ∙ rw e)

@@ -68,7 +68,7 @@ module _ (s : Sample) (l₀ l₁ : List ℕ) (room : line_length ≤ length l₀
   blank_set =
       ap (λ (l : List ℕ). set l blank_at blank) numbers ∙ set_next (number_columns s) l₀ blank_at (numbers_length s) blank (omega arith)
 
-  pub name_room : length (take name_columns (drop name_start (set l₁ blank_at blank))) ≡ name_columns
+  name_room : length (take name_columns (drop name_start (set l₁ blank_at blank))) ≡ name_columns
   unfolding newline_at line_length
   name_room =
       let rest : drop name_start (set l₁ blank_at blank) ≡ drop name_start l₀ =

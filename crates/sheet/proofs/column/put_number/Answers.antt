@@ -1,11 +1,8 @@
 -- `column::put_number`: the places from i on are written, and what is left of the number goes before them.
-use Rattle.std.proofs.Common.{◌-◌, refl, arith, length-set}
+use Rattle.std.proofs.Common.{◌-◌, arith, length-set}
 use Rattle.sheet.specs.Column.{blank}
-use Rattle.sheet.proofs.Laws.Writing.Columns.{none_written, all_written, digit_more, digit_last}
+use Rattle.sheet.proofs.Laws.Writing.Columns.{all_written, digit_more, digit_last}
 use Rattle.sheet.proofs.column.put_number.Goals as goal
-
-pub loop-i-init : goal.loop-i-init
-loop-i-init c = (refl, none_written c.args.column.now c.args.n)
 
 pub returns-then-left-lt10 : goal.returns-then-left-lt10
 unfolding blank

@@ -3,17 +3,13 @@ use mathlib.Core.Path.{refl, ◌∙◌}
 use native.Mathlib.Omega.{arith}
 use Rattle.sheet.specs.Line.{tag_columns}
 use Rattle.model.specs.Walklist.{tag_lines}
-use Rattle.tag_list.proofs.Laws.Lines.{tags_more, tags_all}
+use Rattle.tag_list.proofs.Laws.Lines.{tags_more}
 use Rattle.tag_list.proofs.lines.put_tags.Goals as goal
 
 pub loop-i-init : goal.loop-i-init
 unfolding tag_lines
 loop-i-init c =
     (refl, refl)
-
-pub put_number_line-requires : goal.put_number_line-requires
-put_number_line-requires c =
-    omega (arith, c.requires, c.loop-i.invariant.0)
 
 pub loop-i-preserved : goal.loop-i-preserved
 unfolding tag_columns
@@ -22,7 +18,3 @@ loop-i-preserved c =
       put.auto.text ∙ c.loop-i.invariant.0,
       put.ensures ∙ tags_more _ _ c.loop-i.i (omega arith) c.loop-i.text c.loop-i.invariant.1,
     )
-
-pub returns : goal.returns
-returns c =
-    tags_all _ _ _ c.loop-i.i (omega arith) c.loop-i.invariant.1 (omega arith)

@@ -1,6 +1,5 @@
 -- `print::put_order`: all samples are listed, and a line is written for each.
 use mathlib.Core.Path.{refl, sym, ap₂}
-use native.Mathlib.Omega.{arith}
 use Rattle.colour.specs.declared.Region.TheVariants.{Box}
 use Rattle.model.specs.Tables.{pair}
 use Rattle.model.specs.Sound.{long_enough}
@@ -30,11 +29,6 @@ slice_bounds-tags-end c = (ordered (goal.at.slice_bounds-tags-end c).In-Ok).with
 
 pub slice_bounds-put_tags-end : goal.slice_bounds-put_tags-end
 slice_bounds-put_tags-end c = sym (ordered (goal.at.slice_bounds-put_tags-end c).In-Ok).size
-
-pub put_tags-requires : goal.put_tags-requires
-put_tags-requires c =
-    let o = ordered (goal.at.put_tags-requires c).In-Ok in
-    omega (arith, o.size, o.few, c.requires.1)
 
 pub returns : goal.returns
 returns c = order_printed _ _ _ _ _ (ordered (goal.at.returns c).In-Ok) c.put_tags.ensures
