@@ -87,7 +87,8 @@ impl Rows for &[u32] {
 }
 
 // Passes the rows of the octant that is row `number`, and of those below it, from the word `at` on; says how many, unless a no ends it. An
-// octant's own row comes first there, and is passed last: it names the rows of its children.
+// octant's own row comes first there, and is passed last: it names the rows of its children. (Its entries, the depths left and its number go together, and
+// each child has others: a struct of them would be made anew for each.)
 fn pass_all<R: Rows>(
     part: &[u64],
     bucket: usize,

@@ -25,7 +25,8 @@ use words::tables::Tables;
 use words::zeros::{are_zero, clear};
 
 // Judges a list of samples by its entries, for tables of these lengths, and puts the entries in their order: whether it finds rows and its tree
-// finds octant rows, and how many octants that is (questions 6 and 7).
+// finds octant rows, and how many octants that is (questions 6 and 7). (Entries and scratch are two slices: below, a part of the one goes down with all of
+// the other.)
 pub fn judge(
     entries: &mut [u64],
     scratch: &mut [u64],
@@ -86,25 +87,24 @@ pub fn write(samples: &mut [u32], octants: &mut [u32], settings: Settings, order
 }
 
 // Whether the sample table is that of the samples in its first rows, given their entries in their order; the header is known to be right.
-fn samples_are(samples: &[u32], ordered: &[u64]) -> bool
-    requires { (sample_header current ≤ length samples.now) × (RowsGiven samples.now ordered.now)
-        × (count_in samples.now ≡ length ordered.now) }
-    ensures { (result ≡ true) ↔ (samples.now
-        ≡ sample_table_by (length samples.now) (settings_in current samples.now) (view ordered.now)
-        (first_samples current samples.now (length ordered.now))) }
+fn samples_are(tables: &Tables<'_>, ordered: &[u64]) -> bool
+    requires { (RowsGiven tables.now.samples.now ordered.now) × (count_in tables.now.samples.now ≡ length ordered.now) }
+    ensures { (result ≡ true) ↔ (tables.now.samples.now
+        ≡ sample_table_by (length tables.now.samples.now) (settings_in current tables.now.samples.now) (view ordered.now)
+        (first_samples current tables.now.samples.now (length ordered.now))) }
 {
     let from = sample_start(ordered.len());
-    all_are(samples, ordered) && are_zero(&samples[from..])
+    all_are(tables.samples, ordered) && are_zero(&tables.samples[from..])
 }
 
 // Whether the octant table is that of ordered entries, which come to so many octants.
-fn octants_are(octants: &[u32], bucket: u32, count: u32, ordered: &[u64]) -> bool
-    requires { (octant_header current ≤ length octants.now) × (length ordered.now ≤ 4096)
-        × (Ordered bucket depths ordered.now)
-        × (count ≡ octants_of bucket depths (view ordered.now)) × (count ≤ octant_rows current (length octants.now)) }
+fn octants_are(tables: &Tables<'_>, bucket: u32, count: u32, ordered: &[u64]) -> bool
+    requires { (length ordered.now ≤ 4096) × (Ordered bucket depths ordered.now)
+        × (count ≡ octants_of bucket depths (view ordered.now)) × (count ≤ octant_rows current (length tables.now.octants.now)) }
     ensures { (result ≡ true)
-        ↔ (octants.now ≡ octant_table_by (length octants.now) bucket ordered.now) }
+        ↔ (tables.now.octants.now ≡ octant_table_by (length tables.now.octants.now) bucket ordered.now) }
 {
+    let octants = tables.octants;
     if count_of(octants) != count {
         return false;
     }
@@ -136,8 +136,7 @@ fn same_tables(
     ) else {
         return false;
     };
-    samples_are(tables.samples, entries)
-        && octants_are(tables.octants, settings.bucket, count, entries)
+    samples_are(tables, entries) && octants_are(tables, settings.bucket, count, entries)
 }
 
 // Whether the tables are those of the samples in the first rows, as many as there are places for entries.

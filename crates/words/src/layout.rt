@@ -1,4 +1,5 @@
-// Which word of the tables stands where. Nothing else knows an offset.
+// Which word of the tables stands where. Nothing else knows an offset. (Rows name one another by their numbers, as document 01 has it of the lent words.
+// Readers differ in a word's place alone: their names and contracts say which, and one reader by places would be asked for the place by each caller.)
 ghost use Rattle.std.specs.Prelude.{◌+◌, ◌*◌, ◌^◌, ◌≤◌, ◌<◌, min, true, ◌&&◌, ◌↔◌, ◌≡◌, leb, ◌∷◌, ◌++◌, length, take, drop, set};
 ghost use Rattle.colour.specs.Colour.{colour_by};
 ghost use Rattle.model.specs.SampleSet.{settings_good};

@@ -7,9 +7,9 @@ use Rattle.octree.proofs.Laws.Tables.Octants.{Fitting, fitting, told_end, whole_
 use Rattle.octree.proofs.tables.octants_are.Goals as goal
 use Rattle.octree.proofs.tables.octants_are.Goals.{Start}
 
-fits : (c : Start) → Fitting c.args.bucket c.args.ordered.now c.args.octants.now c.args.count
+fits : (c : Start) → Fitting c.args.bucket c.args.ordered.now c.args.tables.now.octants.now c.args.count
 unfolding depths
-fits c = fitting _ _ _ _ c.requires.0 c.requires.1 c.requires.3 c.requires.4
+fits c = fitting _ _ _ _ c.args.tables.now.octants_headed c.requires.0 c.requires.2 c.requires.3
 
 pub returns-then-count : goal.returns-then-count
 returns-then-count c =
@@ -21,16 +21,16 @@ offset_bounds-octants-start c =
 
 pub slice_bounds-compare-count : goal.slice_bounds-compare-count
 slice_bounds-compare-count c =
-    omega (arith, c.octant_start-start.ensures, octants_first, c.requires.0)
+    omega (arith, c.octant_start-start.ensures, octants_first, c.args.tables.now.octants_headed)
 
 pub slice_bounds-compare-start : goal.slice_bounds-compare-start
 slice_bounds-compare-start c =
-    omega (arith, c.octant_start-start.ensures, octants_first, c.requires.0)
+    omega (arith, c.octant_start-start.ensures, octants_first, c.args.tables.now.octants_headed)
 
 pub compare-requires : goal.compare-requires
 unfolding depths
 compare-requires c =
-    whole_rooted (fits (goal.at.compare-requires c).Start) _ c.octant_start-start.ensures c.requires.2
+    whole_rooted (fits (goal.at.compare-requires c).Start) _ c.octant_start-start.ensures c.requires.1
 
 pub returns-in_default : goal.returns-in_default
 unfolding depths

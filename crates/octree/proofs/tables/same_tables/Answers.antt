@@ -21,7 +21,7 @@ samples_are-requires c =
     let h = c.requires.headed in
     let few = judged_few c.requires c.judge.ensures c.in-Ok.is c.judge.auto.entries in
     let once = judged_once c.requires c.judge.ensures c.in-Ok.is c.judge.auto.entries in
-    (c.args.tables.now.samples_headed, record { few = few; once = once }, h.counted ∙ sym c.judge.auto.entries)
+    (record { few = few; once = once }, h.counted ∙ sym c.judge.auto.entries)
 
 pub returns-else-samples_are : goal.returns-else-samples_are
 returns-else-samples_are c =
@@ -35,7 +35,7 @@ octants_are-requires c =
     let ordered = judged_ordered c.requires c.judge.ensures c.in-Ok.is c.judge.auto.entries in
     let octants = judged_octants c.requires c.judge.ensures c.in-Ok.is c.judge.auto.entries in
     let room = judged_room c.requires c.judge.ensures c.in-Ok.is c.judge.auto.entries in
-    (c.args.tables.now.octants_headed, omega (arith, few, rows_few (length c.args.tables.now.samples.now)), ordered, octants, room)
+    (omega (arith, few, rows_few (length c.args.tables.now.samples.now)), ordered, octants, room)
 
 pub returns-then-samples_are : goal.returns-then-samples_are
 returns-then-samples_are c =
