@@ -4,7 +4,7 @@ ghost use Rattle.std.specs.Prelude.{◌*◌, ◌≤◌, ◌<◌, ◌≡◌};
 ghost use Rattle.model.specs.Layout.{current};
 ghost use Rattle.words.specs.Rows.{octant_limit};
 ghost use Rattle.traversal.specs.Steps.{SearchReady};
-ghost use Rattle.traversal.specs.Spot.{Stood, Forked, search_at, siblings_at, split_at};
+ghost use Rattle.traversal.specs.Spot.{Stood, search_at, siblings_at, split_at};
 ghost use Rattle.near_path.specs.Best.{bests, best_of, best_found, found_if};
 ghost use Rattle.near_path.specs.Steps.{search_after, search_in};
 
@@ -13,49 +13,49 @@ use crate::leaf::own;
 use colour::Probe;
 use colour::distance::square;
 use traversal::children::children_in;
-use traversal::nearby::{far_of, turns};
+use traversal::nearby::turns;
 use traversal::octant::{child_at, ends};
-use traversal::spot::{Fork, Spot, closest_spot, fork_of, parent_at, root_spot, sibling_spot};
+use traversal::spot::{Crossing, Spot, root_spot};
 use words::layout::{sample_rows, tag as tag_of};
 use words::tables::Tables;
 
 // The siblings of the closest child, in turn: those that are still close enough.
 #[cycle(siblings_split_visit)]
-fn siblings(tables: &Tables<'_>, p: Probe, row: u32, spot: Spot, fork: Fork, search: &mut Search)
-    requires forked { (Forked p spot fork) × (row < octant_limit current tables.now.octants.now) }
+fn siblings(tables: &Tables<'_>, row: u32, at: Crossing, search: &mut Search)
+    requires row_bound { row < octant_limit current tables.now.octants.now }
     requires ready { SearchReady tables.now.samples.now tables.now.octants.now (search_in search.old) }
     ensures { search.new
-        ≡ search_after (siblings_at (bests tables.now.samples.now p) tables.now.samples.now tables.now.octants.now p row spot)
+        ≡ search_after
+        (siblings_at (bests tables.now.samples.now at.probe) tables.now.samples.now tables.now.octants.now at.probe row at.spot)
         search.old }
 {
-    let far = far_of(p, parent_at(p, spot, fork));
+    let far = at.far();
     let limit = tables.octant_limit();
-    for turn in children_in(turns(search.distance, spot.near, far)) {
-        let next = child_at(tables.octants, row, fork.first ^ turn);
-        let to = sibling_spot(p, spot, fork, far, turn);
+    for turn in children_in(turns(search.distance, at.spot.near, far)) {
+        let next = child_at(tables.octants, row, at.fork.first ^ turn);
+        let to = at.sibling(far, turn);
         if search.reaches(next, limit, to.near.sum()) {
-            visit(tables, p, next, to, search);
+            visit(tables, at.probe, next, to, search);
         }
     }
 }
 
 // A split octant: the closest child, and then its siblings. (In a function of its own: in `visit`, what is handed on would be copied in pieces.)
 #[cycle(siblings_split_visit)]
-fn split(tables: &Tables<'_>, p: Probe, row: u32, spot: Spot, search: &mut Search)
-    requires stood { (Stood p spot) × (spot.cube.depth < 16) }
+fn split(tables: &Tables<'_>, row: u32, at: Crossing, search: &mut Search)
     requires row_bound { row < octant_limit current tables.now.octants.now }
     requires ready { SearchReady tables.now.samples.now tables.now.octants.now (search_in search.old) }
     ensures { search.new
-        ≡ search_after (split_at (bests tables.now.samples.now p) tables.now.samples.now tables.now.octants.now p row spot)
+        ≡ search_after
+        (split_at (bests tables.now.samples.now at.probe) tables.now.samples.now tables.now.octants.now at.probe row at.spot)
         search.old }
 {
-    let fork = fork_of(p, spot.cube);
-    let next = child_at(tables.octants, row, fork.first);
-    let to = closest_spot(p, spot, fork);
+    let next = child_at(tables.octants, row, at.fork.first);
+    let to = at.closest();
     if search.reaches(next, tables.octant_limit(), to.near.sum()) {
-        visit(tables, p, next, to, search);
+        visit(tables, at.probe, next, to, search);
     }
-    siblings(tables, p, row, spot, fork, search);
+    siblings(tables, row, at, search);
 }
 
 // Enters the octant in a row: its own samples are measured, or its children are searched.
@@ -73,7 +73,7 @@ fn visit(tables: &Tables<'_>, p: Probe, row: u32, spot: Spot, search: &mut Searc
         own(tables, p, row, search);
         return;
     }
-    split(tables, p, row, spot, search);
+    split(tables, row, Crossing::new(p, spot), search);
 }
 
 // What is found, with its tag: nothing, if the closest is still at the limit. The row is tested before it is read.

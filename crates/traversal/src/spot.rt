@@ -3,9 +3,9 @@
 ghost use Rattle.std.specs.Prelude.{◌<◌, ◌≡◌};
 ghost use Rattle.colour.specs.Octant.{root_cube, Within};
 ghost use Rattle.traversal.specs.Nearby.{far_of};
-ghost use Rattle.traversal.specs.Spot.{spot_at, fork_of, turn_spot, Forked};
+ghost use Rattle.traversal.specs.Spot.{spot_at, fork_of, turn_spot, Stood, Forked};
 
-use crate::nearby::{Squares, turned};
+use crate::nearby::{Squares, far_of, turned};
 use colour::nearby::closest_child;
 use colour::octant::{Parent, child, root};
 use colour::{Cube, Probe};
@@ -47,39 +47,68 @@ pub fn fork_of(p: Probe, cube: Cube) -> Fork
     }
 }
 
-// The octant, with its children's side. (`Forked` is of probe, spot and fork, and so is a field of none.)
-pub fn parent_at(p: Probe, spot: Spot, fork: Fork) -> Parent
-    requires { Forked p spot fork }
-    ensures cube { result.cube ≡ spot.cube }
-    ensures half { result.half ≡ fork.half }
-{
-    Parent {
-        cube: spot.cube,
-        half: fork.half,
-    }
+// A split octant that a search by path goes through: what distances are measured from, where the search stands, and its ways on.
+#[derive(Clone, Copy)]
+pub struct Crossing {
+    pub probe: Probe,
+    pub spot: Spot,
+    pub fork: Fork,
+    ghost forked: { Forked probe spot fork },
 }
 
-// The closest child: it adds what the octant does.
-pub fn closest_spot(p: Probe, spot: Spot, fork: Fork) -> Spot
-    requires { Forked p spot fork }
-    ensures { result ≡ turn_spot p spot 0 }
-{
-    let near = spot.near;
-    Spot {
-        cube: child(parent_at(p, spot, fork), fork.first),
-        near,
+impl Crossing {
+    // At an octant of side over 1.
+    pub fn new(p: Probe, spot: Spot) -> Crossing
+        requires stood { Stood p spot }
+        requires deep { spot.cube.depth < 16 }
+        ensures probe { result.probe ≡ p }
+        ensures spot { result.spot ≡ spot }
+    {
+        Crossing {
+            probe: p,
+            spot,
+            fork: fork_of(p, spot.cube),
+        }
     }
-}
 
-// The sibling of turn m, which lies in the far halves of the channels of the bits of m.
-pub fn sibling_spot(p: Probe, spot: Spot, fork: Fork, far: Squares, m: u32) -> Spot
-    requires forked { Forked p spot fork }
-    requires far_value { far ≡ far_of p fork.half spot.cube.low }
-    ensures { result ≡ turn_spot p spot m }
-{
-    let k = fork.first ^ m;
-    Spot {
-        cube: child(parent_at(p, spot, fork), k),
-        near: turned(spot.near, far, m),
+    // The octant, with its children's side.
+    pub fn parent(self) -> Parent
+        ensures cube { result.cube ≡ self.spot.cube }
+        ensures half { result.half ≡ self.fork.half }
+    {
+        Parent {
+            cube: self.spot.cube,
+            half: self.fork.half,
+        }
+    }
+
+    // What its far halves add.
+    pub fn far(self) -> Squares
+        ensures { result ≡ far_of self.probe self.fork.half self.spot.cube.low }
+    {
+        far_of(self.probe, self.parent())
+    }
+
+    // The closest child: it adds what the octant does.
+    pub fn closest(self) -> Spot
+        ensures { result ≡ turn_spot self.probe self.spot 0 }
+    {
+        let near = self.spot.near;
+        Spot {
+            cube: child(self.parent(), self.fork.first),
+            near,
+        }
+    }
+
+    // The sibling of turn m, which lies in the far halves of the channels of the bits of m.
+    pub fn sibling(self, far: Squares, m: u32) -> Spot
+        requires { far ≡ far_of self.probe self.fork.half self.spot.cube.low }
+        ensures { result ≡ turn_spot self.probe self.spot m }
+    {
+        let k = self.fork.first ^ m;
+        Spot {
+            cube: child(self.parent(), k),
+            near: turned(self.spot.near, far, m),
+        }
     }
 }

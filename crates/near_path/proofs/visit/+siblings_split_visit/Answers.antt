@@ -1,19 +1,21 @@
 -- `visit::visit`, `visit::split` and `visit::siblings`: the closest child first, then the siblings that are still close enough; the search is the
 -- definition's.
-use Prim.Native.Nat.{ℕ, ◌<◌}
+use Prim.Native.Nat.{ℕ}
+use mathlib.Core.List.{List}
 use mathlib.Core.Path.{◌≡◌, sym, ap, ap₂, ◌∙◌, subst}
-use Rattle.colour.specs.declared.Cube.{Cube}
 use native.Mathlib.Omega.{arith}
 use Rattle.colour.specs.declared.Probe.{Probe}
 use Rattle.colour.specs.Octant.{depths}
+use Rattle.traversal.specs.Squares.{Squares}
 use Rattle.traversal.specs.declared.spot.Spot.{Spot}
 use Rattle.traversal.specs.declared.spot.Fork.{Fork}
-use Rattle.traversal.specs.Nearby.{far_of, SmallSquares}
+use Rattle.traversal.specs.Nearby.{turn_within, far_of, SmallSquares}
 use Rattle.traversal.specs.Children.{child_at}
 use Rattle.traversal.specs.Places.{children_in}
 use Rattle.traversal.specs.declared.children.Children.{Children}
 use Rattle.traversal.specs.Search.{Searching, search_entering, own_search}
-use Rattle.traversal.specs.Spot.{Stood, Forked, fork_of, turn_at, siblings_at, split_at}
+use Rattle.traversal.specs.Spot.{Forked, turn_at, siblings_at, split_at}
+use Rattle.traversal.proofs.Laws.Places.{NextChild}
 use Rattle.traversal.proofs.Laws.Cubes.{limit_rows}
 use Rattle.traversal.proofs.Laws.Nearby.{sum_is, sum_fits}
 use Rattle.traversal.proofs.Laws.Search.Keeps.{entering_within, still_ready}
@@ -22,33 +24,38 @@ use Rattle.traversal.proofs.Laws.Search.Spots.{Told, turn_told, told_barred, tol
 use Rattle.traversal.proofs.Laws.Search.Path.{Siblings, turning_begins, next_is, turning_barred, turning_visited, turning_ends}
 use Rattle.near_path.specs.Best.{Kept, bests}
 use Rattle.traversal.specs.Steps.{SearchReady}
+use Rattle.near_path.specs.declared.best.Search.{Search}
 use Rattle.near_path.specs.Steps.{search_as, search_in, search_after}
 use Rattle.near_path.proofs.Laws.Closer.{best_steady, best_beyond}
 use Rattle.near_path.proofs.Laws.Starting.{lent_ready}
 use Rattle.near_path.proofs.visit.+siblings_split_visit.Goals as goal
-use Rattle.near_path.proofs.visit.+siblings_split_visit.Goals.{siblings-After-far_of-far, siblings-After-reaches, split-After-reaches, split-Joined-reaches, split-then-reaches, split-else-reaches, visit-After-enter}
-
--- What the far halves add, by the octant itself.
-far_is : (t : ℕ) (c : siblings-After-far_of-far t) → c.far_of-far.result ≡ far_of c.args.p c.args.fork.half c.args.spot.cube.low
-far_is t c = c.far_of-far.ensures ∙ ap₂ (λ (s : ℕ) (x : Cube). far_of c.args.p s x.low) c.parent_at.ensures.half c.parent_at.ensures.cube
+use Rattle.near_path.proofs.visit.+siblings_split_visit.Goals.{siblings-In-Some, siblings-After-reaches, split-After-reaches, split-Joined-reaches, split-then-reaches, split-else-reaches, visit-After-enter}
 
 -- What is known of the siblings when the loop begins.
-known : (t : ℕ) (c : siblings-After-far_of-far t)
-    → Siblings (bests c.args.tables.now.samples.now c.args.p) c.args.p c.args.spot c.args.fork c.far_of-far.result (search_in c.args.search.now).kept.distance
-    (search_in c.args.search.now)
-known t c =
-    record { forked = c.requires.forked.0; far_is = far_is t c; beyond = best_beyond (search_in c.args.search.now).kept; steady = best_steady _ _ }
+known : (ws : List ℕ) (lent : Search) {p : Probe} {spot : Spot} {fork : Fork} {far : Squares} → Forked p spot fork → far ≡ far_of p fork.half spot.cube.low
+    → Siblings (bests ws p) p spot fork far (search_in lent).kept.distance (search_in lent)
+known ws lent f e =
+    record { forked = f; far_is = e; beyond = best_beyond (search_in lent).kept; steady = best_steady _ _ }
 
--- What is told of the turn of the sibling that is next.
+turning : (t : ℕ) (c : siblings-In-Some t) → SearchReady c.args.tables.now.samples.now c.args.tables.now.octants.now (search_in c.loop-turn.search)
+turning t c = still_ready c.requires.ready c.loop-turn.invariant.limits
+
+-- The sibling that is next, and what is told of its turn.
+found : (t : ℕ) (c : siblings-In-Some t)
+    → NextChild (turn_within (search_in c.args.search.now).kept.distance c.args.at.spot.near c.far-far.result) c.loop-turn.invariant.done c.in-Some.turn
+    (children_in c.next.new.self.left)
+found t c =
+    next_is (known c.args.tables.now.samples.now c.args.search.now c.args.at.forked c.far-far.ensures) c.loop-turn.invariant c.in-Some.ensures.steps
+
 told : (t : ℕ) (c : siblings-After-reaches t)
-    → Told (bests c.args.tables.now.samples.now c.args.p) c.args.tables.now.samples.now c.args.tables.now.octants.now c.args.p c.args.row c.args.spot c.in-Some.turn
-    (search_in c.loop-turn.search) c.child_at-next.result c.sibling_spot-to.result c.reaches.result
+    → Told (bests c.args.tables.now.samples.now c.args.at.probe) c.args.tables.now.samples.now c.args.tables.now.octants.now c.args.at.probe c.args.row c.args.at.spot c.in-Some.turn
+    (search_in c.loop-turn.search) c.child_at-next.result c.sibling-to.result c.reaches.result
 told t c =
-    turn_told (c.child_at-next.ensures ∙ ap (child_at c.args.tables.now.octants.now c.args.row) (kid_turn c.requires.forked.0 _)) c.sibling_spot-to.ensures
-    (c.sum.ensures ∙ sum_is _) c.octant_limit-limit.ensures (c.reaches.ensures c.args.tables.now.samples.now c.args.p)
+    turn_told (c.child_at-next.ensures ∙ ap (child_at c.args.tables.now.octants.now c.args.row) (kid_turn c.args.at.forked _)) c.sibling-to.ensures
+    (c.sum.ensures ∙ sum_is _) c.octant_limit-limit.ensures (c.reaches.ensures c.args.tables.now.samples.now c.args.at.probe)
 
 pub siblings-turns-requires : goal.siblings-turns-requires
-siblings-turns-requires t c = far_rising c.requires.forked.0 (far_is t (goal.at.siblings-turns-requires t c).After-far_of-far)
+siblings-turns-requires t c = far_rising c.args.at.forked c.far-far.ensures
 
 pub siblings-loop-turn-init : goal.siblings-loop-turn-init
 siblings-loop-turn-init t c =
@@ -58,56 +65,52 @@ siblings-loop-turn-init t c =
 
 pub siblings-child_at-next-requires : goal.siblings-child_at-next-requires
 siblings-child_at-next-requires t c =
-    let f = next_is (known t (goal.at.siblings-child_at-next-requires t c).After-far_of-far) c.loop-turn.invariant c.in-Some.ensures.steps in
-    (limit_rows _ _ c.requires.forked.1, kid_small c.requires.forked.0 _ f.below)
+    let f = found t (goal.at.siblings-child_at-next-requires t c).In-Some in
+    (limit_rows _ _ c.requires.row_bound, kid_small c.args.at.forked _ f.below)
 
 pub siblings-sum-requires : goal.siblings-sum-requires
 siblings-sum-requires t c =
-    sum_fits (subst (λ (x : Spot). SmallSquares x.near) (sym c.sibling_spot-to.ensures) (turn_small c.requires.forked.0 _))
+    sum_fits (subst (λ (x : Spot). SmallSquares x.near) (sym c.sibling-to.ensures) (turn_small c.args.at.forked _))
 
 pub siblings-visit-requires : goal.siblings-visit-requires
 siblings-visit-requires t c =
     let at = goal.at.siblings-visit-requires t c in
-    let f = c.requires.forked.0 in
+    let f = c.args.at.forked in
     let d = subst (Told _ _ _ _ _ _ _ _ _ _) c.if-reaches.true (told t at.After-reaches) in (
       omega (arith, c.decreases, told_depth d f, f.deep),
-      ((told_stood d f, (told_room d).0), (still_ready c.requires.ready c.loop-turn.invariant.limits, (told_room d).1)),
+      ((told_stood d f, (told_room d).0), (turning t at.In-Some, (told_room d).1)),
     )
 
 pub siblings-loop-turn-preserved-then-reaches : goal.siblings-loop-turn-preserved-then-reaches
 siblings-loop-turn-preserved-then-reaches t c =
     let at = goal.at.siblings-loop-turn-preserved-then-reaches t c in
-    turning_visited (known t at.After-far_of-far) c.loop-turn.invariant c.in-Some.ensures.steps (subst (Told _ _ _ _ _ _ _ _ _ _) c.if-reaches.true (told t at.After-reaches)) (ap search_in c.visit.ensures)
+    turning_visited (known c.args.tables.now.samples.now c.args.search.now c.args.at.forked c.far-far.ensures) c.loop-turn.invariant c.in-Some.ensures.steps (subst (Told _ _ _ _ _ _ _ _ _ _) c.if-reaches.true (told t at.After-reaches)) (ap search_in c.visit.ensures)
 
 pub siblings-loop-turn-preserved : goal.siblings-loop-turn-preserved
 siblings-loop-turn-preserved t c =
     let at = goal.at.siblings-loop-turn-preserved t c in
-    turning_barred (known t at.After-far_of-far) c.loop-turn.invariant c.in-Some.ensures.steps (subst (Told _ _ _ _ _ _ _ _ _ _) c.if-reaches.false (told t at.After-reaches))
+    turning_barred (known c.args.tables.now.samples.now c.args.search.now c.args.at.forked c.far-far.ensures) c.loop-turn.invariant c.in-Some.ensures.steps (subst (Told _ _ _ _ _ _ _ _ _ _) c.if-reaches.false (told t at.After-reaches))
 
 pub siblings-returns : goal.siblings-returns
 siblings-returns t c =
     ap search_as
-    (turning_ends (known t (goal.at.siblings-returns t c).After-far_of-far) c.loop-turn.invariant c.in-None.ensures.steps.0)
-
--- Where the children of an octant are gone through.
-parted : {p : Probe} {spot : Spot} {fork : Fork} → (Stood p spot) × (spot.cube.depth < 16) → fork ≡ fork_of p spot.cube → Forked p spot fork
-parted s e = record { stood = s.0; deep = s.1; is = e }
+    (turning_ends (known c.args.tables.now.samples.now c.args.search.now c.args.at.forked c.far-far.ensures) c.loop-turn.invariant c.in-None.ensures.steps.0)
 
 -- What is told of turn 0.
 closest : (t : ℕ) (c : split-After-reaches t)
-    → Told (bests c.args.tables.now.samples.now c.args.p) c.args.tables.now.samples.now c.args.tables.now.octants.now c.args.p c.args.row c.args.spot 0 (search_in c.args.search.now)
-    c.child_at-next.result c.closest_spot-to.result c.reaches.result
+    → Told (bests c.args.tables.now.samples.now c.args.at.probe) c.args.tables.now.samples.now c.args.tables.now.octants.now c.args.at.probe c.args.row c.args.at.spot 0 (search_in c.args.search.now)
+    c.child_at-next.result c.closest-to.result c.reaches.result
 closest t c =
     turn_told
-    (c.child_at-next.ensures ∙ ap (child_at c.args.tables.now.octants.now c.args.row) (kid_first (parted c.requires.stood c.fork_of-fork.ensures)))
-    c.closest_spot-to.ensures (c.sum.ensures ∙ sum_is _) c.octant_limit.ensures (c.reaches.ensures c.args.tables.now.samples.now c.args.p)
+    (c.child_at-next.ensures ∙ ap (child_at c.args.tables.now.octants.now c.args.row) (kid_first c.args.at.forked))
+    c.closest-to.ensures (c.sum.ensures ∙ sum_is _) c.octant_limit.ensures (c.reaches.ensures c.args.tables.now.samples.now c.args.at.probe)
 
 -- Whether or not it was entered, turn 0 was taken.
 first_turn : (t : ℕ) (c : split-Joined-reaches t)
-    → Told (bests c.args.tables.now.samples.now c.args.p) c.args.tables.now.samples.now c.args.tables.now.octants.now c.args.p c.args.row c.args.spot 0 (search_in c.args.search.now)
-    c.child_at-next.result c.closest_spot-to.result c.reaches.result
+    → Told (bests c.args.tables.now.samples.now c.args.at.probe) c.args.tables.now.samples.now c.args.tables.now.octants.now c.args.at.probe c.args.row c.args.at.spot 0 (search_in c.args.search.now)
+    c.child_at-next.result c.closest-to.result c.reaches.result
     → c.if-reaches.search
-    ≡ search_after (turn_at (bests c.args.tables.now.samples.now c.args.p) c.args.tables.now.samples.now c.args.tables.now.octants.now c.args.p c.args.row c.args.spot 0) c.args.search.now
+    ≡ search_after (turn_at (bests c.args.tables.now.samples.now c.args.at.probe) c.args.tables.now.samples.now c.args.tables.now.octants.now c.args.at.probe c.args.row c.args.at.spot 0) c.args.search.now
 first_turn t c d =
     elim c.if-reaches.branch [
       | split-then-reaches w ↦
@@ -118,15 +121,15 @@ first_turn t c d =
 
 pub split-child_at-next-requires : goal.split-child_at-next-requires
 split-child_at-next-requires t c =
-    (limit_rows _ _ c.requires.row_bound, first_small (parted c.requires.stood c.fork_of-fork.ensures))
+    (limit_rows _ _ c.requires.row_bound, first_small c.args.at.forked)
 
 pub split-sum-requires : goal.split-sum-requires
 split-sum-requires t c =
-    sum_fits (subst (λ (x : Spot). SmallSquares x.near) (sym c.closest_spot-to.ensures) (turn_small (parted c.requires.stood c.fork_of-fork.ensures) 0))
+    sum_fits (subst (λ (x : Spot). SmallSquares x.near) (sym c.closest-to.ensures) (turn_small c.args.at.forked 0))
 
 pub split-visit-requires : goal.split-visit-requires
 split-visit-requires t c =
-    let f = parted c.requires.stood c.fork_of-fork.ensures in
+    let f = c.args.at.forked in
     let d = subst (Told _ _ _ _ _ _ _ _ _ _) c.if-reaches.true (closest t (goal.at.split-visit-requires t c).After-reaches) in (
       omega (arith, c.decreases, told_depth d f, f.deep),
       ((told_stood d f, (told_room d).0), (c.requires.ready, (told_room d).1)),
@@ -137,9 +140,9 @@ split-siblings-requires t c =
     let at = goal.at.split-siblings-requires t c in (
       omega (arith, c.decreases),
       (
-        (parted c.requires.stood c.fork_of-fork.ensures, c.requires.row_bound),
+        c.requires.row_bound,
         lent_ready c.requires.ready _ (first_turn t at.Joined-reaches (closest t at.After-reaches))
-            (turn_at_within (bests c.args.tables.now.samples.now c.args.p) c.args.tables.now.samples.now c.args.tables.now.octants.now c.args.p c.args.row c.args.spot 0 c.requires.ready.limits),
+            (turn_at_within (bests c.args.tables.now.samples.now c.args.at.probe) c.args.tables.now.samples.now c.args.tables.now.octants.now c.args.at.probe c.args.row c.args.at.spot 0 c.requires.ready.limits),
       ),
     )
 
@@ -148,7 +151,7 @@ unfolding split_at
 split-returns t c =
     let at = goal.at.split-returns t c in
     c.siblings.ensures
-    ∙ ap (λ (u : Searching Kept). search_as (siblings_at (bests c.args.tables.now.samples.now c.args.p) c.args.tables.now.samples.now c.args.tables.now.octants.now c.args.p c.args.row c.args.spot u))
+    ∙ ap (λ (u : Searching Kept). search_as (siblings_at (bests c.args.tables.now.samples.now c.args.at.probe) c.args.tables.now.samples.now c.args.tables.now.octants.now c.args.at.probe c.args.row c.args.at.spot u))
     (ap search_in (first_turn t at.Joined-reaches (closest t at.After-reaches)))
 
 -- What is lent once the octant is entered.
@@ -176,20 +179,27 @@ visit-returns-then-ends t c =
     (ap (own_search (bests ws c.args.p) ws os c.args.row) (went_in t (goal.at.visit-returns-then-ends t c).After-enter)
     ∙ sym (search_own (bests ws c.args.p) ws os c.args.p c.args.row c.args.spot _ (sym c.ends.ensures ∙ c.if-ends.true)))
 
-pub visit-split-requires : goal.visit-split-requires
-visit-split-requires t c =
+pub visit-new-requires : goal.visit-new-requires
+visit-new-requires t c =
     let ws = c.args.tables.now.samples.now in
     let os = c.args.tables.now.octants.now in
-    let deep = search_deep (bests ws c.args.p) ws os c.args.p c.args.row c.args.spot (search_in c.args.search.now) (sym c.ends.ensures ∙ c.if-ends.false) in (
-      omega (arith, c.decreases),
-      ((c.requires.stood.0, deep), (c.requires.stood.1, still t (goal.at.visit-split-requires t c).After-enter)),
-    )
+    record {
+      stood = c.requires.stood.0;
+      deep = search_deep (bests ws c.args.p) ws os c.args.p c.args.row c.args.spot (search_in c.args.search.now) (sym c.ends.ensures ∙ c.if-ends.false);
+    }
+
+pub visit-split-requires : goal.visit-split-requires
+visit-split-requires t c = (
+  omega (arith, c.decreases, ap (λ (x : Spot). x.cube.depth) c.new.ensures.spot),
+  (c.requires.stood.1, still t (goal.at.visit-split-requires t c).After-enter),
+)
 
 pub visit-returns : goal.visit-returns
 visit-returns t c =
     let ws = c.args.tables.now.samples.now in
     let os = c.args.tables.now.octants.now in
     c.split.ensures
+    ∙ ap₂ (λ (q : Probe) (x : Spot). search_after (split_at (bests ws q) ws os q c.args.row x) c.enter.new.self) c.new.ensures.probe c.new.ensures.spot
     ∙ ap search_as
     (ap (split_at (bests ws c.args.p) ws os c.args.p c.args.row c.args.spot) (went_in t (goal.at.visit-returns t c).After-enter)
     ∙ sym (search_split (bests ws c.args.p) ws os c.args.p c.args.row c.args.spot _ (sym c.ends.ensures ∙ c.if-ends.false)))

@@ -8,15 +8,15 @@ use Rattle.near_path.specs.Steps.{search_in}
 use Rattle.near_path.proofs.visit.+siblings_split_visit.Given as goal
 
 abbrev pub decreases-siblings : goal.decreases-siblings
-decreases-siblings l = 3 * (16 - l.spot.cube.depth)
+decreases-siblings l = 3 * (16 - l.at.spot.cube.depth)
 
 abbrev pub decreases-split : goal.decreases-split
-decreases-split l = suc (3 * (16 - l.spot.cube.depth))
+decreases-split l = suc (3 * (16 - l.at.spot.cube.depth))
 
 abbrev pub decreases-visit : goal.decreases-visit
 decreases-visit l = suc (suc (3 * (16 - l.spot.cube.depth)))
 
 abbrev pub invariant-siblings-loop-turn : goal.invariant-siblings-loop-turn
 invariant-siblings-loop-turn l =
-    Turning (bests l.tables.samples.now l.p) l.tables.samples.now l.tables.octants.now l.p l.row l.spot l.far (search_in l.initial.search).kept.distance (search_in l.initial.search)
+    Turning (bests l.tables.samples.now l.at.probe) l.tables.samples.now l.tables.octants.now l.at.probe l.row l.at.spot l.far (search_in l.initial.search).kept.distance (search_in l.initial.search)
     (children_in l.turn-iterator.left) (search_in l.search)
