@@ -1,6 +1,6 @@
 // What a pass has counted. It is lent down the recursion: a struct that goes down and comes back by value would be copied at each octant. (The listing is
-// lent beside it. As a `&mut` in the tally it would have each function promise that it is the same listing still, and definitions make tallies, which could
-// then not be made without one.)
+// lent beside it. With a `&mut` to it in the tally each function would have to promise that the tally still holds that listing, and definitions, which make
+// tallies, could make none without one.)
 ghost use Rattle.std.specs.Prelude.{◌+◌, ◌≤◌, ◌<◌, ◌&&◌, ◌≡◌, leb, ltb};
 ghost use Rattle.listing.specs.Pass.{measured_after, tally_entering, visiting, no_tally};
 ghost use Rattle.listing.specs.Steps.{tally_of, tally_in};

@@ -109,8 +109,8 @@ module _ (n : ℕ) (ws sheet : List ℕ) (lines taken : ℕ) where
     left = stop_number (samples_from current ws 0 n) (sample_rows current (length ws)) (lines_from sheet taken (lines - taken))
 
     module _ (q : Result (Unit {0}) Refusal) (p : Result (Unit {0}) Stop) (passed : Handed taken q p) (said : answer_number q ≡ asked) where
-      pub row_refused : (y : Stop) (t : Result ℕ Stop) → p ≡ Err y → t ≡ Err y → Stopped n ws sheet lines taken t
-      row_refused y t refused is =
+      pub good_refused : (y : Stop) (t : Result ℕ Stop) → p ≡ Err y → t ≡ Err y → Stopped n ws sheet lines taken t
+      good_refused y t refused is =
           let e = handed_refused taken q p y passed refused in
           let number : refusal_number e.0 ≡ asked = ap answer_number (sym e.1) ∙ said in
           let same : (asked ≡ 0 → ⊥) → asked ≡ left =
@@ -120,8 +120,8 @@ module _ (n : ℕ) (ws sheet : List ℕ) (lines taken : ℕ) where
           (λ new room ne. absurd (ne refl)) in
           ends_with t y e.0 is e.2 (record { number = number ∙ same (λ z. refusal_numbered e.0 (number ∙ z)); count = refl })
 
-      pub row_taken : (y : Stop) → p ≡ Ok tt → y ≡ record { refusal = R.NoOctants; taken = taken } → Stopped n ws sheet lines taken (Err y)
-      row_taken y accepted is =
+      pub good_taken : (y : Stop) → p ≡ Ok tt → y ≡ record { refusal = R.NoOctants; taken = taken } → Stopped n ws sheet lines taken (Err y)
+      good_taken y accepted is =
           ends_with (Err y) y R.NoOctants refl is
           (row_asked l.sample.tag n ws (sample_rows current (length ws))
           (λ k. k ≡ 0 → Stopped n ws sheet lines taken (Err (record { refusal = R.NoOctants; taken = taken })))

@@ -5,7 +5,7 @@ use lib.ListN.{length}
 use Rattle.colour.proofs.Laws.Refused.{passed_on}
 use Rattle.words.proofs.Laws.Layout.Places.{rows_few}
 use Rattle.samples.proofs.Laws.Loaded.Left.{line_room}
-use Rattle.samples.proofs.Laws.Loaded.Ends.{at_end, line_refused, row_refused, row_taken}
+use Rattle.samples.proofs.Laws.Loaded.Ends.{at_end, line_refused, good_refused, good_taken}
 use Rattle.samples.proofs.load.stopped.Goals as goal
 
 pub overflow_cast-so_far : goal.overflow_cast-so_far
@@ -27,11 +27,11 @@ returns-in_err-line c =
 
 pub returns-in_err-map_err : goal.returns-in_err-map_err
 returns-in_err-map_err c =
-    row_refused _ _ _ _ _ c.line_at.result c.map_err.result _ (search of_calls) c.in_ok-line.was c.if-lines-taken.false c.line_at.ensures
+    good_refused _ _ _ _ _ c.line_at.result c.map_err.result _ (search of_calls) c.in_ok-line.was c.if-lines-taken.false c.line_at.ensures
     c.row_for.result c.map_err-2.result (search of_calls) c.row_for.ensures _ _ c.in_err-map_err.was
     (passed_on c.in_err-map_err.field-0.0 c.from_residual-in_err-map_err.result c.from_residual-in_err-map_err.ensures.1)
 
 pub returns : goal.returns
 returns c =
-    row_taken _ _ _ _ _ c.line_at.result c.map_err.result _ (search of_calls) c.in_ok-line.was c.if-lines-taken.false c.line_at.ensures
+    good_taken _ _ _ _ _ c.line_at.result c.map_err.result _ (search of_calls) c.in_ok-line.was c.if-lines-taken.false c.line_at.ensures
     c.row_for.result c.map_err-2.result (search of_calls) c.row_for.ensures _ c.in_ok-map_err.was (search of_calls)
