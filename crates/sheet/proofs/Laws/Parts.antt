@@ -1,12 +1,12 @@
 -- A text as its parts are written, and parts that were lent and came back.
-use Prim.Native.Nat.{ℕ, suc, ◌+◌, ◌-◌, ◌≤◌, ◌<◌}
+use Prim.Native.Nat.{ℕ, ◌+◌, ◌-◌, ◌≤◌, ◌<◌}
 use mathlib.Core.List.{List, [], ◌∷◌, ◌++◌, append-nil, append_assoc}
 use mathlib.Core.Path.{◌≡◌, sym, ap, ◌∙◌}
 use native.Mathlib.Numerals.{add-one}
 use native.Mathlib.Omega.{arith}
 use borrow.Rule.Slice.PartMut.{put_mid}
 use lib.ListN.{length, take, drop, get_or, set, replicate, length-append, length-drop, drop_of_length-le, take-append-drop}
-use lib.Seq.{take_all, take-suc, take_at, drop_at, drop-drop, set_at, set_split, length-take-le}
+use lib.Seq.{take_all, take-suc, take_at, drop_at, drop-drop, set_at, length-take-le}
 use Rattle.sheet.specs.Steps.{put_at}
 use Rattle.sheet.proofs.Laws.Text.{next_byte}
 
@@ -26,11 +26,6 @@ pub put_tail : (a : ℕ) (s t : List ℕ) → put_mid a (length s - a) s t ≡ t
 put_tail a s t =
     ap (λ (l : List ℕ). take a s ++ (t ++ l)) (drop_of_length-le (drop a s) {i = length s - a} (omega (arith, length-drop a s)))
     ∙ ap (λ (l : List ℕ). take a s ++ l) (append-nil t)
-
--- A byte that was set stands before what follows it.
-pub set_here : (s : List ℕ) (i v : ℕ) → i < length s → drop i (set s i v) ≡ v ∷ drop (suc i) s
-set_here s i v h =
-    ap (drop i) (set_split s i v h) ∙ drop_at (take i s) (v ∷ drop (suc i) s) i (length-take-le i s (omega arith))
 
 -- One byte more is copied.
 pub copy_more : (s d : List ℕ) (i : ℕ) → i < length s → i < length d

@@ -2,12 +2,13 @@
 use Prim.Native.Nat.{ℕ, suc, ◌+◌, ◌-◌, ◌/◌, ◌%◌, ◌≤◌, ◌<◌}
 use mathlib.Core.List.{List, [], ◌∷◌, ◌++◌, append_assoc}
 use mathlib.Core.Path.{◌≡◌, sym, ap, ◌∙◌}
+use native.Mathlib.Numerals.{add-one}
 use native.Mathlib.Omega.{arith}
 use borrow.Author.Tests.{lt-ltb, le-ltb}
 use lib.ListN.{length, take, drop, set, replicate, length-append, length-set}
 use lib.Seq.{length-take-le}
+use Rattle.std.proofs.lemmas.List.{drop-set}
 use Rattle.sheet.specs.Column.{blank, decimal, column_of}
-use Rattle.sheet.proofs.Laws.Parts.{set_here}
 
 -- So many blanks before some text.
 padded : {k m : ℕ} (t : List ℕ) → k ≡ m → replicate k blank ++ t ≡ replicate m blank ++ t
@@ -36,7 +37,7 @@ all_written w n left i column so_far h = let e : i ≡ 0 = omega arith in sym (s
 -- j before i, then blanks or more digits before it.
 module _ (w n left i j : ℕ) (column : List ℕ) (so_far : column_of w n ≡ column_of i left ++ drop i column) (next : i ≡ suc j) (room : j < length column) where
   pub digit_more : 10 ≤ left → column_of w n ≡ column_of j (left / 10) ++ drop j (set column j (48 + left % 10))
-  digit_more h = so_far ∙ rw (next, column_more j left h, append_assoc, set_here column j (48 + left % 10) room)
+  digit_more h = so_far ∙ rw (next, column_more j left h, append_assoc, drop-set column j (48 + left % 10) room, add-one j)
 
   pub digit_last : (blanks : List ℕ) → left < 10 → blanks ≡ replicate (length (take j (set column j (48 + left % 10)))) blank
       → blanks ++ drop j (set column j (48 + left % 10)) ≡ column_of w n
@@ -44,4 +45,4 @@ module _ (w n left i j : ℕ) (column : List ℕ) (so_far : column_of w n ≡ co
       let digit : 48 + left ≡ 48 + left % 10 = omega arith in
       let size : length (take j (set column j (48 + left % 10))) ≡ j =
       length-take-le j _ (omega (arith, length-set column j (48 + left % 10))) in
-      sym (so_far ∙ rw (next, column_last j left h, append_assoc, e, size, set_here column j (48 + left % 10) room, digit))
+      sym (so_far ∙ rw (next, column_last j left h, append_assoc, e, size, drop-set column j (48 + left % 10) room, add-one j, digit))
