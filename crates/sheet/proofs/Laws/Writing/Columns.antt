@@ -7,8 +7,8 @@ use native.Mathlib.Omega.{arith}
 use borrow.Author.Tests.{lt-ltb, le-ltb}
 use lib.ListN.{length, take, drop, set, replicate, length-append, length-set}
 use lib.Seq.{length-take-le}
-use Rattle.sheet.specs.Column.{blank, decimal, column_of}
 use Rattle.std.proofs.lemmas.List.{drop-set}
+use Rattle.sheet.specs.Column.{blank, decimal, column_of}
 
 -- So many blanks before some text.
 padded : {k m : ℕ} (t : List ℕ) → k ≡ m → replicate k blank ++ t ≡ replicate m blank ++ t
