@@ -1,5 +1,4 @@
 -- Nearest over any words of the tables.
 pub mod Best
-pub mod Turns
 pub mod Search
 pub mod Steps

@@ -14,7 +14,7 @@ use Rattle.traversal.specs.Own.{own_rows, ends_at}
 use Rattle.nearest.specs.declared.best.Best.{Best}
 use Rattle.nearest.specs.declared.search.Search.{Search}
 use Rattle.nearest.specs.Best.{closer, taken, unfound}
-use Rattle.nearest.specs.Turns.{in_turn}
+use Rattle.traversal.specs.Turns.{in_turn}
 
 -- The best, once the sample in row i is measured, in the octant in row `at`. Words that are no codes are wrapped.
 unfoldable pub measure_row : List ℕ → Colour → ℕ → Best → ℕ → Best

@@ -17,7 +17,7 @@ use Rattle.traversal.specs.Own.{ends_at}
 use Rattle.traversal.proofs.Laws.Rows.{own_few}
 use Rattle.nearest.specs.declared.search.Search.{Search}
 use Rattle.nearest.specs.Best.{closer}
-use Rattle.nearest.specs.Turns.{in_turn}
+use Rattle.traversal.specs.Turns.{in_turn}
 use Rattle.nearest.specs.Search.{search_entering, own_search, reaches, child_search, turn_child, search_of, no_search, search_all}
 use Rattle.nearest.specs.Steps.{SearchWithin}
 

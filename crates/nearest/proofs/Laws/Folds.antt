@@ -16,7 +16,7 @@ use Rattle.traversal.proofs.Laws.Sound.Each.{All, all_then}
 use Rattle.nearest.specs.declared.best.Best.{Best}
 use Rattle.nearest.specs.Best.{closer, taken, best_answer}
 use Rattle.nearest.specs.Best as best
-use Rattle.nearest.proofs.Laws.Labels.{Label, Rising, rising_lower}
+use Rattle.traversal.proofs.Laws.Kept.Labels.{Label, Rising, rising_lower}
 
 -- How far a label's sample is from c.
 abbrev pub far : Colour → Label → ℕ

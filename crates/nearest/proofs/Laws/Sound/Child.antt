@@ -25,7 +25,7 @@ use Rattle.nearest.specs.declared.best.Best.{Best}
 use Rattle.nearest.specs.declared.search.Search.{Search}
 use Rattle.nearest.specs.Best.{closer}
 use Rattle.nearest.specs.Search.{reaches, child_search, search_of}
-use Rattle.nearest.proofs.Laws.Labels.{child_labels, labelled, labelled_none, labelled_all, labelled_within}
+use Rattle.traversal.proofs.Laws.Kept.Labels.{child_labels, labelled, labelled_none, labelled_all, labelled_within}
 use Rattle.nearest.proofs.Laws.Folds.{measured, measured_skips, closer_farther}
 use Rattle.nearest.proofs.Laws.Entered.{reaches_none, reaches_farther, reaches_yes, turned_off, turned_in}
 use Rattle.nearest.proofs.Laws.Sound.Own.{Stands, Agrees}

@@ -14,10 +14,10 @@ use Rattle.model.specs.Tables.{child_row}
 use Rattle.model.proofs.Lists.{total_past}
 use Rattle.traversal.proofs.Laws.Sound.Each.{all_then}
 use Rattle.nearest.specs.declared.best.Best.{Best}
-use Rattle.nearest.specs.Turns.{in_turn}
-use Rattle.nearest.proofs.Laws.Labels.{Label, child_labels, labelled_within}
+use Rattle.traversal.specs.Turns.{in_turn}
+use Rattle.traversal.proofs.Laws.Kept.Labels.{Label, child_labels, labelled_within}
 use Rattle.nearest.proofs.Laws.Folds.{measured, measured_append, measured_swap}
-use Rattle.nearest.proofs.Laws.Turns.{Commute}
+use Rattle.traversal.proofs.Laws.Search.Turns.{Commute}
 
 -- Lists that are measured in turn are measured as one.
 pub turns_measured : (c : Colour) (best : Best) (f : ℕ → List Label) (n : ℕ)

@@ -21,7 +21,7 @@ use Rattle.traversal.proofs.Laws.Sound.Standing.{octants_some, root_stands}
 use Rattle.nearest.specs.declared.best.Best.{Best}
 use Rattle.nearest.specs.Best.{unfound, best_answer}
 use Rattle.nearest.specs.Search.{no_search, search_all}
-use Rattle.nearest.proofs.Laws.Labels.{labelled, labelled_none, labelled_order, labelled_rising}
+use Rattle.traversal.proofs.Laws.Kept.Labels.{labelled, labelled_none, labelled_order, labelled_rising}
 use Rattle.nearest.proofs.Laws.Folds.{measured, measured_nearest}
 use Rattle.nearest.proofs.Laws.Sound.Searched.{search_agrees}
 

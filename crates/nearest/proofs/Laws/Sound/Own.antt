@@ -25,7 +25,7 @@ use Rattle.nearest.specs.declared.best.Best.{Best}
 use Rattle.nearest.specs.declared.search.Search.{Search}
 use Rattle.nearest.specs.Best.{taken}
 use Rattle.nearest.specs.Search.{measure_row, measure_rows, search_entering, own_search}
-use Rattle.nearest.proofs.Laws.Labels.{label, labelled, labelled_leaf}
+use Rattle.traversal.proofs.Laws.Kept.Labels.{label, labelled, labelled_leaf}
 use Rattle.nearest.proofs.Laws.Folds.{measured}
 
 module _ (ws : List ℕ) (n : ℕ) (c : Colour) (at : ℕ) where

@@ -27,11 +27,11 @@ use Rattle.words.specs.Rows.{settings_in, octant_field}
 use Rattle.traversal.specs.Own.{ends_at}
 use Rattle.traversal.proofs.Laws.Sound.Held.{held_count}
 use Rattle.nearest.specs.declared.search.Search.{Search}
-use Rattle.nearest.specs.Turns.{in_turn}
+use Rattle.traversal.specs.Turns.{in_turn}
 use Rattle.nearest.specs.Search.{search_entering, child_search, turn_child, search_of}
-use Rattle.nearest.proofs.Laws.Labels.{child_labels, labelled_split}
+use Rattle.traversal.proofs.Laws.Kept.Labels.{child_labels, labelled_split}
 use Rattle.nearest.proofs.Laws.Folds.{measured}
-use Rattle.nearest.proofs.Laws.Turns.{xor_below, children_turned, total_children}
+use Rattle.traversal.proofs.Laws.Search.Turns.{xor_below, children_turned, total_children}
 use Rattle.nearest.proofs.Laws.Sound.Own.{Stands, Agrees, own_agrees}
 use Rattle.traversal.proofs.Laws.Nearby.{closest_child_small}
 use Rattle.nearest.proofs.Laws.Sound.Children.{turns_measured, child_measured, children_commute}

@@ -24,7 +24,7 @@ use Rattle.traversal.proofs.Laws.Cubes.{half_is, child_depth}
 use Rattle.nearest.specs.declared.best.Best.{Best}
 use Rattle.nearest.specs.declared.search.Search.{Search}
 use Rattle.nearest.specs.Best.{closer}
-use Rattle.nearest.specs.Turns.{in_turn}
+use Rattle.traversal.specs.Turns.{in_turn}
 use Rattle.nearest.specs.Search.{measure_rows, search_entering, own_search, reaches, child_search, turn_child, search_of, no_search, search_all}
 use Rattle.nearest.specs.Steps.{Ready}
 use Rattle.nearest.proofs.Laws.Entered.{turned_off, turned_in}

@@ -7,10 +7,10 @@ use Rattle.colour.specs.declared.Cube.{Cube}
 use Rattle.colour.specs.Nearby.{closest_child, gaps_of}
 use Rattle.colour.specs.Octant.{depths, children, side_at, child_cube}
 use Rattle.traversal.proofs.Laws.Cubes.{limit_rows, child_depth}
-use Rattle.nearest.specs.Turns.{in_turn}
+use Rattle.traversal.specs.Turns.{in_turn}
 use Rattle.nearest.specs.Search.{own_search}
 use Rattle.nearest.specs.Steps.{Ready}
-use Rattle.nearest.proofs.Laws.Turns.{xor_below}
+use Rattle.traversal.proofs.Laws.Search.Turns.{xor_below}
 use Rattle.nearest.proofs.Laws.Steps.Searching.{search_own, search_turns, entering_ready, turns_ready, deep, turn_off, turn_row, turn_on, turn_none, turn_more}
 use Rattle.nearest.proofs.visit.+visit.Goals as goal
 use Rattle.nearest.proofs.visit.+visit.Goals.{After-enter-search, After-closest_child-first, After-gaps_of-gaps, Else-ends, After-parent_of-parent, then-reaches, else-reaches}

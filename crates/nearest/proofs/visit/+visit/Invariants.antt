@@ -1,7 +1,7 @@
 -- The search after some turns is the definition's. The measure of the recursion is the depth left.
 use Prim.Native.Nat.{◌-◌}
 use mathlib.Core.Path.{◌≡◌}
-use Rattle.nearest.specs.Turns.{in_turn}
+use Rattle.traversal.specs.Turns.{in_turn}
 use Rattle.nearest.proofs.Laws.Steps.Searching.{turn_at}
 use Rattle.nearest.proofs.visit.+visit.Given as goal
 
