@@ -10,6 +10,7 @@ use traversal::rows::{Run, rows_from};
 use words::layout::{colour as colour_of, tag as tag_of};
 
 // Whether the sample in a row is listed: each is where its octant is taken whole; else it is measured.
+#[tactic(auto, unfolding(crate::specs::Pass::takes, words::specs::Rows::sample_in))]
 fn takes(samples: &[u32], region: Region, whole: bool, row: usize) -> bool
     requires { row < sample_rows current (length samples.now) }
     ensures { result ≡ takes samples.now region whole row }

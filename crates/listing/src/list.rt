@@ -40,6 +40,7 @@ fn how_many(tables: &Tables<'_>, region: Region) -> usize
 }
 
 // A pass that writes.
+#[tactic(auto, using(crate::proofs::Laws::Answers::Listing::listed_all))]
 fn write(tables: &Tables<'_>, region: Region, listing: &mut [u32]) -> Counts
     requires room { length (pass_of tables.now.samples.now tables.now.octants.now region).tags ≤ length listing.old }
     ensures { listed_answer (Ok result) listing.new
@@ -52,6 +53,7 @@ fn write(tables: &Tables<'_>, region: Region, listing: &mut [u32]) -> Counts
 
 // Question 13, and the listing. A listing as long as the samples that a pass may visit holds all, so that one pass does; else it is counted
 // first, and nothing is written where it is too short.
+#[tactic(auto, using(crate::proofs::Laws::Answers::Answered::tags_budget, crate::proofs::Laws::Answers::Listing::no_room))]
 pub fn list(tables: &Tables<'_>, region: Region, listing: &mut [u32]) -> Result<Counts, Refusal>
     ensures { listed_answer result listing.new
         ≡ pass_answer (pass_of tables.now.samples.now tables.now.octants.now region) listing.old }

@@ -21,6 +21,7 @@ pub fn closer(best: Best, distance: u64, octant: u32) -> bool
 }
 
 // The best, once a sample is measured.
+#[tactic(auto, unfolding(crate::specs::Best::taken))]
 pub fn taken(best: Best, distance: u64, octant: u32, tag: u32) -> Best
     ensures { result ≡ taken best distance octant tag }
 {

@@ -21,6 +21,7 @@ pub struct Search {
 }
 
 // The best, once the sample in a row is measured.
+#[tactic(auto, unfolding(crate::specs::Search::measure_row, words::specs::Rows::sample_in))]
 fn measure_row(samples: &[u32], centre: Codes, octant: u32, best: Best, row: usize) -> Best
     requires { row < sample_rows current (length samples.now) }
     ensures { result ≡ measure_row samples.now centre octant best row }

@@ -23,6 +23,7 @@ use words::tables::Tables;
 const CHILDREN: u32 = 8;
 
 // One octant more is entered.
+#[tactic(auto, unfolding(crate::specs::Search::search_entering))]
 fn enter(search: Search) -> Search
     requires { search.entered < 4294967295 }
     ensures { result ≡ search_entering search }
@@ -75,6 +76,7 @@ fn visit(tables: &Tables<'_>, centre: &Codes, row: u32, cube: Cube, from: Search
 }
 
 // Before a search.
+#[tactic(auto, unfolding(crate::specs::Best::unfound, crate::specs::Search::no_search))]
 fn start(radius: u32) -> Search
     ensures { result ≡ no_search radius }
 {

@@ -10,6 +10,7 @@ use colour::refusal::Refusal;
 use words::layout::{sample_rows, tag as tag_of};
 
 // The row of the sample with a tag among the first n rows, if there is one.
+#[tactic(auto, unfolding(words::specs::Rows::sample_in), using(crate::proofs::Laws::Tags::passed_all, crate::proofs::Laws::Tags::passed_more, crate::proofs::Laws::Tags::passed_to, crate::proofs::Laws::Tags::row_missing, crate::proofs::Laws::Tags::row_there))]
 pub fn row_of(samples: &[u32], n: usize, tag: u32) -> Option<usize>
     requires { n ≤ sample_rows current (length samples.now) }
     ensures { result ≡ row_found tag (first_samples current samples.now n) }
@@ -23,6 +24,7 @@ pub fn row_of(samples: &[u32], n: usize, tag: u32) -> Option<usize>
 }
 
 // Questions 5 and 6, where the samples in the first n rows are in the set: is a tag new, and is there a row after theirs?
+#[tactic(auto, unfolding(crate::specs::Steps::row_questions), using(colour::proofs::Laws::Questions::alone_yes, colour::proofs::Laws::Questions::first_no_lem, colour::proofs::Laws::Questions::first_yes, crate::proofs::Laws::Tags::row_has, words::proofs::Laws::Layout::Samples::samples_length))]
 pub fn row_for(samples: &[u32], n: usize, tag: u32) -> Result<(), Refusal>
     requires { n ≤ sample_rows current (length samples.now) }
     ensures { answer_number result

@@ -85,6 +85,7 @@ fn rows_accepted(
 }
 
 // The same for the samples in the first n rows.
+#[tactic(auto, using(crate::proofs::Laws::Accepted::accepted_lent, octree::proofs::Laws::Tables::Check::places_first, words::proofs::Laws::Layout::Places::rows_few))]
 pub fn acceptable(samples: &[u32], octants: usize, settings: Settings, n: usize) -> bool
     requires { n ≤ sample_rows current (length samples.now) }
     ensures { (result ≡ true) ↔ (Acceptable settings samples.now octants n) }

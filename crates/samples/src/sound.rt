@@ -13,6 +13,7 @@ use words::layout::long_enough;
 
 // Are the tables long enough, and those of some set? (It gives no value that goes on with the fact: the call writes the two tables, and after
 // the first write they are of no set until both are rebuilt.)
+#[tactic(auto, unfolding(model::specs::Sound::long_enough), using(colour::proofs::Laws::Questions::alone_yes, colour::proofs::Laws::Questions::first_no_lem, colour::proofs::Laws::Questions::first_yes, octree::proofs::Laws::Tables::Check::too_short))]
 pub fn sound(samples: &[u32], octants: &[u32]) -> Result<(), Refusal>
     ensures set { CheckMeets (tables_read samples octants) (is_ok result) }
     ensures number { answer_number result

@@ -25,6 +25,7 @@ impl Iterator for Children {
 
     ghost remaining = { item_count (λ c. children_in c.left) };
 
+    #[tactic(auto, using(crate::proofs::Laws::Places::children_none, crate::proofs::Laws::Places::first_child))]
     fn next(&mut self) -> Option<u32> {
         if self.left == 0 {
             return None;

@@ -13,6 +13,7 @@ use colour::{Channels, Probe};
 pub type Squares = Channels<u64>;
 
 // The square of how far a code is from the far half.
+#[tactic(auto, unfolding(crate::specs::Nearby::far_square), using(crate::proofs::Laws::Nearby::far_no, crate::proofs::Laws::Nearby::far_yes))]
 fn far_square(x: u16, middle: u32) -> u64
     requires { middle ≤ 65536 }
     ensures { result ≡ far_square x middle }
@@ -38,6 +39,7 @@ pub fn far_of(p: Probe, parent: Parent) -> Squares
 }
 
 // At turn m: the far half in the channels of the bits of m.
+#[tactic(auto, using(crate::proofs::Laws::Nearby::turned_is))]
 pub fn turned(near: Squares, far: Squares, m: u32) -> Squares
     ensures { result ≡ turned_by near far m }
 {
@@ -49,7 +51,7 @@ pub fn turned(near: Squares, far: Squares, m: u32) -> Squares
 }
 
 // The weight if three squares add up to no more than the most, else 0. (Not one with the bits of `colour::overlap`: a limit one past the most may not fit
-// 64 bits, nor these squares 32, and of eight children one is left out; a shared mask would be lent the sum, the test and the first child.)
+// 64 bits, and of eight children one is left out; a shared mask would be lent the sum, the test and the first child.)
 fn within(red: u64, green: u64, blue: u64, most: u64, weight: u32) -> u32
     requires { (red ≤ 4294967296) × ((green ≤ 4294967296) × (blue ≤ 4294967296)) }
     ensures is { result ≡ bit_if (leb (red + green + blue) most) weight }
@@ -59,6 +61,7 @@ fn within(red: u64, green: u64, blue: u64, most: u64, weight: u32) -> u32
 }
 
 // The turns past the first whose children are no farther than the most, each a bit. Nothing branches.
+#[tactic(auto, using(crate::proofs::Laws::Nearby::turn_bits))]
 fn turns_within(most: u64, near: Squares, far: Squares) -> u32
     requires { NearFar near far }
     ensures { result ≡ turn_mask most near far }

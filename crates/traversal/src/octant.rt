@@ -10,6 +10,7 @@ use words::layout::{octant_child, octant_count, settings as settings_of};
 use words::tables::Tables;
 
 // As many samples as the octant in a row counts, and as may still be visited.
+#[tactic(auto, unfolding(crate::specs::Own::own_most))]
 pub fn most(tables: &Tables<'_>, row: u32, visited: u32) -> u32
     requires row_bound { row < octant_rows current (length tables.now.octants.now) }
     requires visited_bound { visited ≤ sample_budget current tables.now.samples.now }
@@ -20,6 +21,7 @@ pub fn most(tables: &Tables<'_>, row: u32, visited: u32) -> u32
 }
 
 // Whether an octant is gone through sample by sample: it is taken whole, or it is not split.
+#[tactic(auto, unfolding(crate::specs::Own::ends_at))]
 pub fn ends(tables: &Tables<'_>, whole: bool, depth: u32, row: u32) -> bool
     requires { (row < octant_rows current (length tables.now.octants.now)) × (depth ≤ 16) }
     ensures { result ≡ ends_at (16 - depth) whole (octant_field current tables.now.octants.now row Count)
@@ -37,6 +39,7 @@ pub fn ends(tables: &Tables<'_>, whole: bool, depth: u32, row: u32) -> bool
 
 // The row of child k, or 0 for none, as the table's word is. (No Option: at each use the row is compared with 0 and with the limit at once.) A search by
 // path asks for children here and nowhere else: rows without child words, as docs/SEARCH-BY-PATH.md means, would change this function alone.
+#[tactic(auto, unfolding(crate::specs::Children::child_at))]
 pub fn child_at(octants: &[u32], row: u32, k: u32) -> u32
     requires { (row < octant_rows current (length octants.now)) × (k < 8) }
     ensures { result ≡ child_at octants.now row k }

@@ -50,6 +50,7 @@ impl<'a> Iterator for Rows<'a> {
 
     ghost remaining = { item_count (λ r. rows_from r.samples.now r.left r.row) };
 
+    #[tactic(auto, using(crate::proofs::Laws::Rows::rows_more, crate::proofs::Laws::Rows::rows_none, crate::proofs::Laws::Rows::rows_out))]
     fn next(&mut self) -> Option<usize> {
         let row = self.row;
         if self.left == 0 {

@@ -25,6 +25,7 @@ pub struct Fork {
 }
 
 // The root, which holds every probe.
+#[tactic(auto, unfolding(crate::specs::Spot::spot_at), using(crate::proofs::Laws::Nearby::root_near))]
 pub fn root_spot(p: Probe) -> Spot
     ensures { result ≡ spot_at p root_cube }
 {
@@ -35,6 +36,7 @@ pub fn root_spot(p: Probe) -> Spot
 }
 
 // At an octant of side over 1: its children's side, and the closest child. The side is halved: no table is read.
+#[tactic(auto, unfolding(colour::specs::Octant::depths, crate::specs::Spot::fork_of), using(colour::proofs::Laws::Cubes::side_half))]
 pub fn fork_of(p: Probe, cube: Cube) -> Fork
     requires within { Within cube }
     requires depth_bound { cube.depth < 16 }
@@ -72,6 +74,7 @@ impl Crossing {
     }
 
     // The octant, with its children's side.
+    #[tactic(auto, using(crate::proofs::Laws::Search::Spots::fork_half))]
     pub fn parent(self) -> Parent
         ensures cube { result.cube ≡ self.spot.cube }
         ensures half { result.half ≡ self.fork.half }
@@ -90,6 +93,7 @@ impl Crossing {
     }
 
     // The closest child: it adds what the octant does.
+    #[tactic(auto, using(crate::proofs::Laws::Search::Spots::closest_near, crate::proofs::Laws::Search::Spots::kid_first, crate::proofs::Laws::Search::Spots::spot_is))]
     pub fn closest(self) -> Spot
         ensures { result ≡ turn_spot self.probe self.spot 0 }
     {
@@ -101,6 +105,7 @@ impl Crossing {
     }
 
     // The sibling of turn m, which lies in the far halves of the channels of the bits of m.
+    #[tactic(auto, using(crate::proofs::Laws::Search::Spots::kid_turn, crate::proofs::Laws::Search::Spots::spot_is, crate::proofs::Laws::Search::Spots::turned_near))]
     pub fn sibling(self, far: Squares, m: u32) -> Spot
         requires { far ≡ far_of self.probe self.fork.half self.spot.cube.low }
         ensures { result ≡ turn_spot self.probe self.spot m }
