@@ -20,6 +20,7 @@ fn difference(x: u16, y: u16) -> i64
 }
 
 // Its square. A sign is gone in it, so nothing needs to know which code is the greater.
+#[tactic(auto, using(crate::proofs::Laws::Distance::apart_most, crate::proofs::Laws::Distance::apart_squared, crate::proofs::Laws::Distance::square_most))]
 fn apart_square(x: u16, y: u16) -> u64
     ensures is { result ≡ apart x y * apart x y }
     ensures bounded { result ≤ 4294836225 }

@@ -20,7 +20,7 @@ pub fn gaps_of(c: Codes, parent: Parent) -> Channels<Halves>
 }
 
 // d² to the closest colour of child k, whose bits say which half of each channel it is in: 1 is the upper one.
-#[tactic(auto, using(crate::proofs::Laws::Halves::half_by), unfolding(crate::specs::Nearby::closest_by, crate::specs::Steps::child_sum, crate::specs::Colour::sum_of, crate::specs::Steps::of_channel, crate::specs::Octant::bit_weight))]
+#[tactic(auto, unfolding(crate::specs::Nearby::closest_by, crate::specs::Steps::child_sum, crate::specs::Colour::sum_of, crate::specs::Steps::of_channel, crate::specs::Octant::bit_weight), using(crate::proofs::Laws::Halves::half_by, crate::proofs::Laws::Halves::half_small))]
 pub fn closest_by(gaps: Channels<Halves>, k: u32) -> u64
     requires { SmallGaps gaps }
     ensures { result ≡ closest_by gaps k }

@@ -23,6 +23,7 @@ pub fn side(depth: u32) -> u32
 }
 
 // The root octant: all colours.
+#[tactic(auto, unfolding(crate::specs::Colour::black, crate::specs::Colour::colour_by, crate::specs::Octant::root_cube), using(crate::proofs::Laws::Cubes::is_within, crate::proofs::Laws::Cubes::root_within))]
 pub fn root() -> Cube
     ensures is { result ≡ root_cube }
     ensures within { Within result }

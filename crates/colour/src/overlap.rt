@@ -192,6 +192,7 @@ fn ball_overlapping(centre: Codes, radius: u32, parent: Parent) -> u32
     mask(gaps_of(centre, parent), square(radius))
 }
 
+#[tactic(auto, unfolding(crate::specs::Colour::code_in, crate::specs::Steps::halves_of, crate::specs::Steps::limit_of, crate::specs::Steps::share), using(crate::proofs::Laws::Halves::mask_overlaps))]
 fn box_overlapping(low: Colour, high: Colour, parent: Parent) -> u32
     ensures is { result ≡ overlap_mask (Region.Box low high) parent.half parent.cube.low }
     ensures bounded { result < 256 }

@@ -47,6 +47,7 @@ fn code_of(v: f32, twos: u32) -> Option<u32>
 }
 
 // A channel's code: 0 ≤ v < 1.
+#[tactic(auto, unfolding(crate::specs::Panel::channel_good), using(crate::proofs::Floats::Answers::code_told, crate::proofs::Floats::Answers::refused_code, crate::proofs::Floats::Codes::code_below, crate::proofs::Laws::Refused::passed_on))]
 fn channel_code(v: f32) -> Result<u16, Refusal>
     ensures { result ≡ channel_if (channel_good v) v }
 {
@@ -110,6 +111,7 @@ impl From<Codes> for Colour {
 }
 
 // A code as a float: one division, which is exact.
+#[tactic(auto, using(crate::proofs::Floats::Shown::divided, crate::proofs::Floats::Shown::shown_meets))]
 fn show(code: u16) -> f32
     ensures { Shown code result }
 {

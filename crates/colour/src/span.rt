@@ -38,6 +38,7 @@ impl Span {
     }
 
     // How far x is from the closest: one of the two differences is 0. Nothing branches, since on which side of an octant a centre lies can't be foreseen.
+    #[tactic(auto, unfolding(crate::specs::Octant::last_code), using(crate::proofs::Laws::Gaps::closest_apart))]
     fn closest_gap(self, x: u16) -> u32
         ensures is { result ≡ apart x (closest_code self.low (last_code self.side self.low) x) }
         ensures bounded { result ≤ 65535 }
@@ -47,6 +48,7 @@ impl Span {
     }
 
     // How far x is from the farthest, which is the first or the last.
+    #[tactic(auto, unfolding(crate::specs::Colour::apart, crate::specs::Octant::last_code), using(crate::proofs::Laws::Gaps::farthest_apart))]
     fn farthest_gap(self, x: u16) -> u32
         ensures is { result ≡ apart x (farthest_code self.low (last_code self.side self.low) x) }
         ensures bounded { result ≤ 65535 }

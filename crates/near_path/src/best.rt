@@ -50,6 +50,7 @@ impl Search {
 
     // Whether the octant in a row, so far away, is entered: its row is below the limit and not 0, fewer octants than the limit were entered, and it can
     // hold something that comes before the closest sample.
+    #[tactic(auto, unfolding(traversal::specs::Search::reaches), using(traversal::proofs::Laws::Tests::all_first, traversal::proofs::Laws::Tests::not_first))]
     pub fn reaches(&self, octant: u32, limit: u32, distance: u64) -> bool
         ensures { (ws : List ℕ) (p : Probe)
             → result ≡ reaches (bests ws p) limit octant distance (search_in self.now) }
@@ -70,6 +71,7 @@ impl Search {
     }
 
     // Samples of an octant were measured: so many, and this is their least rank.
+    #[tactic(auto, unfolding(crate::specs::Best::taken, crate::specs::Best::taken_rank, crate::specs::Steps::search_ranked))]
     pub fn take(&mut self, octant: u32, rank: u64, seen: u32)
         requires { self.old.visited ≤ 4294967296 }
         ensures { self.new ≡ search_after (search_ranked octant rank seen) self.old }

@@ -99,6 +99,7 @@ fn best_of(samples: &[u32], search: &Search, limit: u64) -> Option<Best>
 }
 
 // Nearest over codes: the root is entered if it is there.
+#[tactic(auto, unfolding(crate::specs::Best::best_found), using(crate::proofs::Laws::Starting::begin_ready, crate::proofs::Laws::Starting::begin_room, crate::proofs::Laws::Starting::from_root, crate::proofs::Laws::Starting::no_root, traversal::proofs::Laws::Search::Spots::root_stood))]
 pub fn nearest(tables: &Tables<'_>, p: Probe, radius: u32) -> Option<Best>
     ensures { result ≡ found_if (radius * radius) (best_found tables.now.samples.now tables.now.octants.now p radius) }
 {

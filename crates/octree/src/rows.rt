@@ -14,6 +14,7 @@ use order::partition::sizes;
 use words::layout::{Octant, octant_is, octant_words, put_octant};
 
 // The octant that holds these entries, as one with no child.
+#[tactic(auto, using(crate::proofs::Laws::Rows::Octant::first_entry, crate::proofs::Laws::Rows::Octant::last_entry))]
 fn octant_of(part: &[u64]) -> Octant
     requires { (1 ≤ length part.now) × (length part.now ≤ 4096) }
     ensures says { Says result.first result.last result.count part.now }

@@ -27,6 +27,7 @@ use words::zeros::{are_zero, clear};
 // Judges a list of samples by its entries, for tables of these lengths, and puts the entries in their order: whether it finds rows and its tree
 // finds octant rows, and how many octants that is (questions 6 and 7). (Entries and scratch are two slices: below, a part of the one goes down with all of
 // the other.)
+#[tactic(auto, unfolding(colour::specs::Octant::depths), using(crate::proofs::Laws::Tables::Judged::judged, crate::proofs::Laws::Tables::Judged::lacks_octants, crate::proofs::Laws::Tables::Judged::lacks_row))]
 pub fn judge(
     entries: &mut [u64],
     scratch: &mut [u64],
@@ -76,6 +77,7 @@ fn write_octants(octants: &mut [u32], bucket: u32, ordered: &[u64])
 }
 
 // Writes the tables of the samples that stand in the first rows, as many as there are entries.
+#[tactic(auto, using(crate::proofs::Laws::Tables::Judged::tables_written, crate::proofs::Laws::Tables::Judged::written_few, crate::proofs::Laws::Tables::Judged::written_fits, crate::proofs::Laws::Tables::Judged::written_once, crate::proofs::Laws::Tables::Judged::written_ordered))]
 pub fn write(samples: &mut [u32], octants: &mut [u32], settings: Settings, ordered: &[u64])
     requires { Writable settings samples.old (length octants.old) ordered.now }
     ensures { tables_left samples octants

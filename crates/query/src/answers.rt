@@ -33,6 +33,7 @@ pub fn of_listed(listed: Result<Counts, Refusal>) -> Result<Reply, Refusal>
 }
 
 // The answer of a search that began with a limit.
+#[tactic(auto, unfolding(crate::specs::Answers::of_kind, crate::specs::Answers::reply_answer, model::specs::Machine::list_answer, model::specs::Machine::nearest_answer, nearest::specs::Best::best_answer))]
 pub fn of_best(best: Best, limit: u64) -> Reply
     ensures is { (left : List ℕ) → reply_answer (Ok result) left ≡ best_answer limit best left }
     ensures kind { of_kind false (Ok result) ≡ true }

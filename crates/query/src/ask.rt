@@ -40,6 +40,7 @@ pub fn ask(
 }
 
 // A ball: an exported call.
+#[tactic(auto, unfolding(model::specs::Meets::lists))]
 pub fn ball(
     samples: &[u32],
     octants: &[u32],
@@ -56,6 +57,7 @@ pub fn ball(
 }
 
 // A box: an exported call.
+#[tactic(auto, unfolding(model::specs::Meets::lists))]
 pub fn boxed(
     samples: &[u32],
     octants: &[u32],

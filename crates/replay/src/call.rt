@@ -13,6 +13,7 @@ use samples::load::load;
 use samples::remove::remove;
 
 // Makes a call that changes a set.
+#[tactic(auto, unfolding(crate::specs::Calls::answer_of, crate::specs::Calls::change_meant, model::specs::Machine::load_answer, samples::specs::Answers::changed_answer, samples::specs::Answers::loaded_answer))]
 fn change(samples: &mut [u32], octants: &mut [u32], change: Changing, sheet: &[u8]) -> Given
     ensures { Meets (Change (change_meant change sheet.now)) (tables_lent samples octants)
         (answer_of result []) (tables_left samples octants) }

@@ -55,6 +55,7 @@ fn put_given(given: Given, words: &mut [u32])
 }
 
 // Makes one step: lends its call the first words of the listings and writes its answer. Says how many words were lent.
+#[tactic(auto, using(crate::proofs::Laws::Steps::stepped))]
 fn step(
     samples: &mut [u32],
     octants: &mut [u32],

@@ -23,6 +23,7 @@ impl Columns {
     }
 
     // Writes a number into them.
+    #[tactic(auto, using(crate::proofs::Laws::Writing::Lines::column_put))]
     pub fn put(self, text: &mut [u8], n: u64)
         requires { self.start + self.width ≤ length text.old }
         ensures { text.new ≡ put_at self.start (column_of self.width n) text.old }
@@ -33,6 +34,7 @@ impl Columns {
 
 // The number that n followed by one digit gives, if it is at most `most`; tested before it is worked out, so that nothing
 // overflows however many digits there are.
+#[tactic(auto, unfolding(crate::specs::Column::between, crate::specs::Column::digit_byte), using(crate::proofs::Laws::Reading::Digits::not_digit, crate::proofs::Laws::Reading::Digits::single, crate::proofs::Laws::Reading::Digits::within_none, crate::proofs::Laws::Reading::Digits::within_over, crate::proofs::Laws::Reading::Digits::within_yes))]
 fn digit_after(n: u64, digit: u8, most: u64) -> Option<u64>
     ensures { result ≡ within most (digits_after n (digit ∷ [])) }
 {
@@ -58,6 +60,7 @@ fn digits(text: &[u8], most: u64) -> Option<u64>
 }
 
 // The same, with no leading zero but in 0 itself.
+#[tactic(auto, using(crate::proofs::Laws::Reading::Digits::decimal_empty, crate::proofs::Laws::Reading::Digits::decimal_plain, crate::proofs::Laws::Reading::Digits::decimal_single, crate::proofs::Laws::Reading::Digits::leading_zero, crate::proofs::Laws::Reading::Digits::within_none))]
 fn decimal_in(text: &[u8], most: u64) -> Option<u64>
     ensures { result ≡ within most (decimal_in text.now) }
 {
@@ -71,6 +74,7 @@ fn decimal_in(text: &[u8], most: u64) -> Option<u64>
 }
 
 // The number in a column, of any width, if it is at most `most`.
+#[tactic(auto, unfolding(crate::specs::Column::column_number), using(crate::proofs::Laws::Parts::part_tail, crate::proofs::Laws::Text::after_blanks))]
 pub fn read_number(column: &[u8], most: u64) -> Option<u64>
     ensures { result ≡ within most (column_number column.now) }
 {

@@ -43,6 +43,7 @@ fn line_count(sheet: &[u8]) -> Option<usize>
 }
 
 // Reads a header: the number of lines, or the refusal of question 11.
+#[tactic(auto, using(crate::proofs::Laws::Reading::Header::header_read))]
 pub fn read_header(sheet: &[u8]) -> Result<usize, Refusal>
     ensures { header_answer result ≡ read_header sheet.now }
 {
@@ -59,7 +60,7 @@ pub fn line_start(k: usize) -> usize
 }
 
 // What line k of a sheet says. The line is handed on as a part of the sheet that starts in its middle.
-#[tactic(auto, using(crate::proofs::Laws::Reading::Header::line_ends), unfolding(crate::specs::Computes::sheet_numbers))]
+#[tactic(auto, unfolding(crate::specs::Computes::sheet_numbers), using(crate::proofs::Laws::Reading::Header::line_ends, crate::proofs::Laws::Reading::Header::line_part_is))]
 pub fn line_at(sheet: &[u8], k: usize) -> Result<Line, Refusal>
     requires { line_start (suc k) ≤ length sheet.now }
     ensures { line_answer result ≡ read_line (line_part sheet.now k) }

@@ -55,7 +55,7 @@ pub struct Line {
 }
 
 // The length of the name in its columns, if they are a good name and blanks after.
-#[tactic(auto, using(crate::proofs::Laws::Text::leading_most))]
+#[tactic(auto, using(crate::proofs::Laws::Text::leading_most, crate::proofs::Laws::Parts::part_tail, crate::proofs::Laws::Reading::Lines::name_alone, crate::proofs::Laws::Reading::Lines::name_followed, crate::proofs::Laws::Reading::Lines::name_none))]
 fn name_length(field: &[u8]) -> Option<usize>
     requires { length field.now ≤ name_columns }
     ensures { result ≡ name_length_in field.now }
@@ -92,7 +92,7 @@ fn numbers(line: &[u8], name_length: usize) -> Option<Line>
 }
 
 // What a line says, if it is good.
-#[tactic(auto, unfolding(crate::specs::Computes::sheet_numbers))]
+#[tactic(auto, unfolding(crate::specs::Computes::sheet_numbers, crate::specs::Column::blank, crate::specs::Column::newline, crate::specs::Line::name_field), using(crate::proofs::Laws::Reading::Lines::has_name, crate::proofs::Laws::Reading::Lines::no_blank, crate::proofs::Laws::Reading::Lines::no_name, crate::proofs::Laws::Reading::Lines::no_newline, crate::proofs::Laws::Reading::Lines::other_length))]
 fn line_of(line: &[u8]) -> Option<Line>
     ensures { result ≡ line_of line.now }
 {
@@ -107,6 +107,7 @@ fn line_of(line: &[u8]) -> Option<Line>
 }
 
 // Reads a line: what it says, or the refusal of question 12.
+#[tactic(auto, unfolding(crate::specs::Line::read_line), using(crate::proofs::Laws::Reading::Lines::line_read))]
 pub fn read_line(line: &[u8]) -> Result<Line, Refusal>
     ensures { line_answer result ≡ read_line line.now }
 {

@@ -34,6 +34,7 @@ fn part_of(sheet: &[u8], tag: u32) -> Option<Part>
 }
 
 // The same, or the empty part: C and the paper have no other word for none.
+#[tactic(auto, unfolding(crate::specs::Sheet::empty_part))]
 pub fn name_part(sheet: &[u8], tag: u32) -> Part
     ensures { result ≡ name_part sheet.now tag }
 {
@@ -41,7 +42,7 @@ pub fn name_part(sheet: &[u8], tag: u32) -> Part
 }
 
 // That part of the caller's own slice: an exported call.
-#[tactic(auto, using(crate::proofs::Laws::Reading::Lookup::name_within))]
+#[tactic(auto, using(crate::proofs::Laws::Reading::Lookup::name_within, crate::proofs::Laws::Reading::Lookup::name_in))]
 pub fn name_of(sheet: &[u8], tag: u32) -> &[u8]
     ensures { NameIn sheet.entry tag result }
 {

@@ -22,6 +22,7 @@ pub fn name_bytes(text: &[u8]) -> usize
 }
 
 // A text at the left of its place, blanks after.
+#[tactic(auto, unfolding(crate::specs::Column::blank), using(crate::proofs::Laws::Parts::left_whole))]
 pub fn put_left(place: &mut [u8], text: &[u8])
     requires { length text.now ≤ length place.old }
     ensures { place.new ≡ text.now

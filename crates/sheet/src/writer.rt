@@ -14,6 +14,7 @@ use colour::panel::codes_fit;
 use colour::refusal::Refusal;
 
 // Whether a name is good: question 10.
+#[tactic(auto, unfolding(crate::specs::Line::name_columns), using(crate::proofs::Laws::Names::name_empty, crate::proofs::Laws::Names::name_tested, crate::proofs::Laws::Names::name_too_long))]
 fn name_good(name: &[u8]) -> bool
     ensures { result ≡ name_good name.now }
 {
@@ -36,7 +37,7 @@ fn put_numbers(sample: Sample, line: &mut [u8])
 }
 
 // Writes a line whose name fits over the first bytes of those lent.
-#[tactic(auto, unfolding(crate::specs::Computes::sheet_numbers))]
+#[tactic(auto, unfolding(crate::specs::Computes::sheet_numbers, crate::specs::Column::blank, crate::specs::Column::newline), using(crate::proofs::Laws::Writing::Lines::line_written))]
 fn put_line(sample: Sample, name: &[u8], line: &mut [u8])
     requires { (length name.now ≤ name_columns) × (line_length ≤ length line.old) }
     ensures { line.new ≡ line_bytes sample name.now ++ drop line_length line.old }

@@ -22,6 +22,7 @@ fn put_number_line(text: &mut [u8], columns: Columns, n: u32)
 }
 
 // Writes the lines of tags over the first bytes of a text.
+#[tactic(auto, unfolding(model::specs::Walklist::tag_lines, sheet::specs::Line::tag_columns), using(crate::proofs::Laws::Lines::tags_more))]
 pub fn put_tags(text: &mut [u8], tags: &[u32])
     requires { 11 * length tags.now ≤ length text.old }
     ensures { text.new

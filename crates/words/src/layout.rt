@@ -203,7 +203,7 @@ pub fn put_next(samples: &mut [u32], i: usize, next: u32)
 }
 
 // Sets the words before the first sample row: the count and the settings.
-#[tactic(auto, unfolding(model::specs::Layout::sample_header, model::specs::Layout::current))]
+#[tactic(auto, unfolding(model::specs::Layout::sample_header, model::specs::Layout::current, model::specs::Tables::setting_word))]
 pub fn put_header(samples: &mut [u32], count: u32, settings: Settings)
     requires { sample_header current ≤ length samples.old }
     ensures { samples.new ≡ header_words current count settings

@@ -9,6 +9,7 @@ pub fn clear(words: &mut [u32])
 }
 
 // Whether every word is 0. All bits are gathered, with no way out of the loop on the way, so that many words are read at a time.
+#[tactic(auto, using(crate::proofs::Laws::Words::gathered_tells))]
 pub fn are_zero(words: &[u32]) -> bool
     ensures { (result ≡ true) ↔ (words.now ≡ replicate (length words.now) 0) }
 {
