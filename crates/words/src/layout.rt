@@ -251,7 +251,7 @@ pub fn octant_count(octants: &[u32], row: u32) -> u32
     octants[at + COUNT]
 }
 
-// Its word for child k.
+// Its word for child k: 0 for none, as the table has it.
 pub fn octant_child(octants: &[u32], row: u32, k: u32) -> u32
     requires { (row < octant_rows current (length octants.now)) × (k < 8) }
     ensures { result ≡ octant_field current octants.now row (Child k) }

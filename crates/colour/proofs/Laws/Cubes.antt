@@ -35,9 +35,6 @@ pub side_most : (d : ℕ) → side_at d ≤ 65536
 unfolding side_at depths
 side_most d = let h : 16 - d ≤ 16 = omega arith in pow-le-pow_right (omega arith) h
 
-pub is_side : (d : ℕ) {s : ℕ} → s ≡ side_at d → (s ≡ side_at d) × ((1 ≤ s) × (s ≤ 65536))
-is_side d e = (e, rw e (side_pos d, side_most d))
-
 -- A cube has a code in each channel, and none past the last code.
 pub room : (c : Cube) → Within c → (h : Channel) → (1 ≤ c.side) × (code_in h c.low + c.side ≤ 65536)
 room c w h = omega (arith, w.sized, w.low h, side_pos c.depth)

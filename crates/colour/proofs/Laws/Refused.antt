@@ -30,10 +30,6 @@ not_accepted_numbered (Ok x) e z = absurd (true≢false e)
 not_accepted_numbered (Err r) e z = refusal_numbered r z
 
 -- An error is no success.
-pub err_not_ok : {T : Type 0} (a : Result T Refusal) → is_err a ≡ true → not (is_ok a) ≡ true
-err_not_ok (Ok x) e = absurd (true≢false (sym e))
-err_not_ok (Err r) e = refl
-
 pub no_err_ok : {T : Type 0} (a : Result T Refusal) → is_err a ≡ false → is_ok a ≡ true
 no_err_ok (Ok x) e = refl
 no_err_ok (Err r) e = absurd (true≢false e)

@@ -28,11 +28,6 @@ module _ (b left number : ℕ) (es : List ℕ) where
       (omega (arith, words) ∙ ap (λ (m : ℕ). octant_width current * m) (sym count))
   ends_written None e count put = let z : ◌≡◌ {A = ℕ} 0 1 = let no = put.says in cc in absurd (omega arith)
 
-  pub ends_count : {before after : List ℕ} (r : Option ℕ) → IfSome r (λ n. n ≡ octants_of b left (view es)) → Put before 0 (rows_of b left number es) (is_some r) after
-      → unwrap_or r 0 ≡ octants_of b left (view es)
-  ends_count (Some n) count put = count
-  ends_count None count put = let z : ◌≡◌ {A = ℕ} 0 1 = let no = put.says in cc in absurd (omega arith)
-
   -- Rows that are compared are told.
   pub ends_told : {before after : List ℕ} (r : Option ℕ) → IfSome r (λ n. n ≡ octants_of b left (view es)) → Compared before 0 (rows_of b left number es) (is_some r) after
       → RowsTold b left number es before r

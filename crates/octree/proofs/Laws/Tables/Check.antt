@@ -135,15 +135,6 @@ both_long ws os long =
 
 module _ (ws os : List ℕ) (s : Settings) (k n : ℕ) (long : long_enough current (pair ws os) ≡ true) (counted : k ≡ count_in ws)
     (settings : s ≡ settings_in current ws) (few : k ≤ sample_rows current (length ws)) (lent : k ≡ n) where
-  pub header_right : (scratch : ℕ) → n ≤ scratch → Headed s ws os n scratch
-  header_right scratch h =
-      record {
-        few = omega (arith, few, lent);
-        space = h;
-        counted = sym counted ∙ lent;
-        settings = sym settings;
-      }
-
   shown_by : settings_good s ≡ true → Holds s n ws os → Sound current (pair ws os)
   unfolding tables_of set_of
   shown_by good h =
@@ -178,6 +169,3 @@ places = replicate 4096 0
 
 pub places_first : (n : ℕ) → n ≤ 4096 → n ≡ length (take n places)
 places_first n h = sym (length-take-le n places (omega (arith, length-replicate {A = ℕ} 4096 0)))
-
-pub places_few : (n : ℕ) → n ≤ 4096 → length (take n places) ≤ 4096
-places_few n h = subst (λ (k : ℕ). k ≤ 4096) (places_first n h) h
