@@ -141,7 +141,7 @@ pub enum Region {
 
 // An octant as a cube of colours: its least colour, its depth, and its side, which goes with it so that it is looked up once. (That it lies within the root
 // is asked where it is needed: definitions make cubes, and would have to make the proofs with them. Its least colour is words: codes would be stored two
-// bytes at a time and read eight at a time, which made a search a tenth slower.)
+// bytes at a time and read eight at a time, which made searches slower.)
 #[derive(Clone, Copy)]
 pub struct Cube {
     pub low: Colour,

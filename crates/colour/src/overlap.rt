@@ -129,6 +129,7 @@ pub fn inside(region: Region, cube: Cube) -> bool
 }
 
 // What each half of a channel adds to a child's sum: to the closest d² for a ball, a square of a code at most; 0 or 1 for a box.
+// (That they are small is asked where they are added up, and is no ghost field: definitions make halves, and would have to make the proofs with them.)
 #[derive(Clone, Copy)]
 pub struct Halves {
     pub lower: u64,

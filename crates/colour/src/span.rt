@@ -148,7 +148,7 @@ impl Split {
         self.low + k / weight % 2 * self.half
     }
 
-    // The weight if a code is in the upper half, or past it.
+    // The weight if a code is in the upper half, or past it, else 0.
     pub(crate) fn upper_bit(self, x: u16, weight: u32) -> u32
         ensures is { result ≡ bit_if (leb (self.low + self.half) x) weight }
         ensures bounded { result ≤ weight }

@@ -5,7 +5,7 @@ use Rattle.colour.specs.declared.Region.{Region}
 use Rattle.model.specs.Layout.{current}
 use Rattle.words.specs.Rows.{octant_limit, sample_budget}
 use Rattle.listing.specs.declared.tally.Tally as Lent
-use Rattle.traversal.specs.declared.rows.Run.{Run}
+use Rattle.listing.specs.declared.follow.Run.{Run}
 use Rattle.traversal.specs.Own.{rows_from}
 use Rattle.listing.specs.Pass.{Tally, Visit, tags_of}
 
@@ -31,8 +31,8 @@ pub record Counting (ws os : List ℕ) (lent : Lent.Tally) : Type 0 where
   pub listed : lent.listed ≤ lent.visited
 
 -- A run of samples was gone through: its tags stand in the listing from a start on, as far as it reaches.
-pub record Followed (ws : List ℕ) (R : Region) (whole : Bool) (first count start : ℕ) (listing : List ℕ) (r : Run ℕ) (listing' : List ℕ) : Type 0 where
-  pub end : r.gathered ≡ start + length (tags_of ws R whole (rows_from ws count first))
+pub record Followed (ws : List ℕ) (R : Region) (whole : Bool) (first count start : ℕ) (listing : List ℕ) (r : Run) (listing' : List ℕ) : Type 0 where
+  pub end : r.end ≡ start + length (tags_of ws R whole (rows_from ws count first))
   pub seen : r.seen ≡ length (rows_from ws count first)
   pub tags : listing' ≡ sets listing start (tags_of ws R whole (rows_from ws count first))
 

@@ -6,10 +6,18 @@ ghost use Rattle.listing.specs.Steps.{Followed};
 
 use colour::overlap::holds;
 use colour::{Region, wrapped};
-use traversal::rows::{Run, rows_from};
+use traversal::rows::rows_from;
 use words::layout::{colour as colour_of, tag as tag_of};
 
-// Whether the sample in a row is listed: each is where its octant is taken whole; else it is measured.
+// What a run of samples came to: where the listing then ends, and how many samples it saw.
+#[derive(Clone, Copy)]
+pub struct Run {
+    pub end: u32,
+    pub seen: u32,
+}
+
+// Whether the sample in a row is listed: each is where its octant is taken whole; else it is measured. (`whole` is no
+// Option of a region: the octant is passed and counted by it also where no sample is measured.)
 #[tactic(auto, unfolding(crate::specs::Pass::takes, words::specs::Rows::sample_in))]
 fn takes(samples: &[u32], region: Region, whole: bool, row: usize) -> bool
     requires { row < sample_rows current (length samples.now) }
@@ -31,7 +39,7 @@ fn put(listing: &mut [u32], at: u32, tag: u32)
     }
 }
 
-// Goes through count samples at most, from row first on, and lists from a start on: what it gathers is where the listing then ends. (8192 is twice the most samples: no sum overflows.)
+// Goes through count samples at most, from row first on, and lists from a start on. (8192 is twice the most samples: no sum overflows.)
 pub fn follow(
     samples: &[u32],
     region: Region,
@@ -40,7 +48,7 @@ pub fn follow(
     count: u32,
     listing: &mut [u32],
     start: u32,
-) -> Run<u32>
+) -> Run
     requires { start + count ≤ 8192 }
     ensures { Followed samples.now region whole first count start listing.old result listing.new }
 {
@@ -53,8 +61,5 @@ pub fn follow(
             end += 1;
         }
     }
-    Run {
-        gathered: end,
-        seen,
-    }
+    Run { end, seen }
 }

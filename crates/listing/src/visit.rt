@@ -42,7 +42,7 @@ fn own_samples(
         listing,
         tally.listed,
     );
-    tally.count(whole, run.seen, run.gathered);
+    tally.count(whole, run.seen, run.end);
 }
 
 // Enters the octant in a row. (The region goes by reference: by value each call would copy it, in pieces that are read before they are there.)

@@ -4,3 +4,4 @@ pub mod Bounds
 pub mod Entered
 pub mod Steps
 pub mod Sound
+pub mod Limits

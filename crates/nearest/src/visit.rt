@@ -1,10 +1,10 @@
 // The search: it recurses through octants, the depth left falling, and takes the closest child first.
-ghost use Rattle.std.specs.Prelude.{◌-◌, ◌≤◌, ◌<◌, ◌&&◌, ◌≡◌, ltb};
+ghost use Rattle.std.specs.Prelude.{◌-◌, ◌*◌, ◌≤◌, ◌<◌, ◌&&◌, ◌≡◌, ltb};
 ghost use Rattle.colour.specs.Octant.{Within};
 ghost use Rattle.colour.specs.Nearby.{closest_by, SmallGaps};
 ghost use Rattle.model.specs.Layout.{current};
 ghost use Rattle.words.specs.Rows.{octant_limit};
-ghost use Rattle.nearest.specs.Best.{closer};
+ghost use Rattle.nearest.specs.Best.{closer, found_if};
 ghost use Rattle.nearest.specs.Search.{search_entering, search_of, no_search, search_all};
 ghost use Rattle.nearest.specs.Steps.{Ready};
 
@@ -91,8 +91,8 @@ fn start(radius: u32) -> Search
     }
 }
 
-// Nearest over codes: the root is entered where it is there.
-pub fn nearest(tables: &Tables<'_>, centre: Codes, radius: u32) -> Best
+// The search for the closest sample: the root is entered where it is there.
+fn closest(tables: &Tables<'_>, centre: Codes, radius: u32) -> Best
     ensures { result ≡ (search_all tables.now.samples.now tables.now.octants.now centre radius).best }
 {
     let none = start(radius);
@@ -100,4 +100,13 @@ pub fn nearest(tables: &Tables<'_>, centre: Codes, radius: u32) -> Best
         return none.best;
     }
     visit(tables, &centre, 0, root(), none).best
+}
+
+// Nearest over codes: what is found, if anything is.
+#[tactic(auto, unfolding(crate::specs::Best::found_if))]
+pub fn nearest(tables: &Tables<'_>, centre: Codes, radius: u32) -> Option<Best>
+    ensures { result ≡ found_if (radius * radius) (search_all tables.now.samples.now tables.now.octants.now centre radius).best }
+{
+    let best = closest(tables, centre, radius);
+    (best.distance < square(radius)).then_some(best)
 }

@@ -1,7 +1,7 @@
 // What a query answers.
 ghost use Rattle.std.specs.Prelude.{true, false, List, ◌≡◌, ℕ, Ok};
 ghost use Rattle.listing.specs.Answers.{listed_answer};
-ghost use Rattle.nearest.specs.Best.{best_answer};
+ghost use Rattle.nearest.specs.Best.{answer_of};
 ghost use Rattle.query.specs.Answers.{reply_answer, of_kind};
 
 use colour::refusal::Refusal;
@@ -32,16 +32,13 @@ pub fn of_listed(listed: Result<Counts, Refusal>) -> Result<Reply, Refusal>
     listed.map(Reply::Listed)
 }
 
-// The answer of a search that began with a limit.
-#[tactic(auto, unfolding(crate::specs::Answers::of_kind, crate::specs::Answers::reply_answer, model::specs::Machine::list_answer, model::specs::Machine::nearest_answer, nearest::specs::Best::best_answer))]
-pub fn of_best(best: Best, limit: u64) -> Reply
-    ensures is { (left : List ℕ) → reply_answer (Ok result) left ≡ best_answer limit best left }
+// The answer of a search.
+#[tactic(auto, unfolding(crate::specs::Answers::of_kind, crate::specs::Answers::reply_answer, model::specs::Machine::list_answer, model::specs::Machine::nearest_answer, nearest::specs::Best::answer_of))]
+pub fn of_best(best: Option<Best>) -> Reply
+    ensures is { (left : List ℕ) → reply_answer (Ok result) left ≡ answer_of best left }
     ensures kind { of_kind false (Ok result) ≡ true }
 {
-    if limit <= best.distance {
-        return Reply::Nearest(None);
-    }
-    Reply::Nearest(Some(Near {
+    Reply::Nearest(best.map(|best| Near {
         tag: best.tag,
         distance: best.distance,
     }))

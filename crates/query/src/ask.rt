@@ -5,7 +5,6 @@ ghost use Rattle.model.specs.Meets.{lists};
 ghost use Rattle.query.specs.Answers.{reply_answer, of_kind, Bounds, AskMeets};
 
 use crate::answers::{Reply, of_best, of_listed};
-use colour::distance::square;
 use colour::panel::Wanted;
 use colour::refusal::Refusal;
 use colour::{PanelColour, Query};
@@ -32,10 +31,7 @@ pub fn ask(
     let wanted = Wanted::try_from(query)?;
     match wanted {
         Wanted::Listed(region) => of_listed(list(&tables, region, listing)),
-        Wanted::Nearest(centre, radius) => {
-            let best = nearest_code(&tables, centre, radius);
-            Ok(of_best(best, square(radius)))
-        }
+        Wanted::Nearest(centre, radius) => Ok(of_best(nearest_code(&tables, centre, radius))),
     }
 }
 

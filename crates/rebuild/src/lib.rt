@@ -10,7 +10,7 @@ use colour::refusal::{Refusal, number_of};
 use samples::rebuild::rebuild;
 use words::layout::{long_enough, sample_rows, settings_fit};
 
-// Questions 1, 3 and 6, and then the rebuild, which asks 4 and 7.
+// Questions 1, 3 and 6, and then the rebuild, which asks 4 and 7. (A clear asks 1 and 3 too: two tests, which a function for both would be as long as.)
 fn rebuild_tables(
     samples: &mut [u32],
     octants: &mut [u32],

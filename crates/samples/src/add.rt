@@ -8,9 +8,8 @@ ghost use Rattle.samples.specs.Steps.{FollowsAll, Adding};
 use crate::find::row_for;
 use crate::rebuild::rebuild;
 use crate::sound::sound;
-use colour::panel::codes_fit;
 use colour::refusal::Refusal;
-use colour::{Colour, Sample};
+use colour::{Codes, Colour, Sample};
 use words::layout::{count as count_of, put_sample, settings as settings_of};
 
 // What stands in a row with no sample.
@@ -43,9 +42,7 @@ pub fn add(samples: &mut [u32], octants: &mut [u32], s: Sample) -> Result<(), Re
     ensures { Meets (Change (Add s)) (tables_lent samples octants) (changed_answer result) (tables_left samples octants) }
 {
     sound(samples, octants)?;
-    if !codes_fit(s.colour) {
-        return Err(Refusal::Code);
-    }
+    Codes::try_from(s.colour)?;
     let n = count_of(samples) as usize;
     row_for(samples, n, s.tag)?;
     add_in_row(samples, octants, n, s)

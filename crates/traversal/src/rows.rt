@@ -64,10 +64,3 @@ impl<'a> Iterator for Rows<'a> {
         Some(row)
     }
 }
-
-// What was gathered from a run of samples, and how many samples it saw.
-#[derive(Clone, Copy)]
-pub struct Run<T> {
-    pub gathered: T,
-    pub seen: u32,
-}

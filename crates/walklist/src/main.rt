@@ -8,6 +8,7 @@ use tag_list::print::{INPUT_LENGTH, TEXT_LENGTH, print};
 
 // Reads until the buffer is full or the input ends, and says how many bytes there are. A read that fails counts as the end.
 // A loop by hand, since each turn goes on by as many bytes as were read, and `read_exact` would not say how many.
+// (How much of the buffer is read stands beside it: a Vec, which would know, needs a heap.)
 fn read_full<R: Read>(reader: &mut R, input: &mut [u8]) -> usize
     ensures { result ≤ length input.new }
 {

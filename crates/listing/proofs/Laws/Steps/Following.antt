@@ -26,7 +26,7 @@ module _ (ws : List ℕ) (R : Region) (whole : Bool) (first count start : ℕ) (
 
   module _ {listing ahead : List ℕ} {seen end : ℕ} (g : Following listing ahead seen end) where
     -- Nothing is left.
-    pub following_ends : ahead ≡ [] → Followed ws R whole first count start before (record { gathered = end; seen = seen }) listing
+    pub following_ends : ahead ≡ [] → Followed ws R whole first count start before (record { end = end; seen = seen }) listing
     following_ends e =
         let none : tags_of ws R whole ahead ≡ [] = ap (tags_of ws R whole) e ∙ tags_none ws R whole in
         record {

@@ -17,7 +17,7 @@ use Rattle.colour.specs.Mask.{overlap_mask}
 use Rattle.colour.specs.Region.{inside}
 use Rattle.model.specs.Layout.{First, Count, current}
 use Rattle.words.specs.Rows.{settings_in, octant_field, octant_limit, sample_budget}
-use Rattle.traversal.specs.declared.rows.Run.{Run}
+use Rattle.listing.specs.declared.follow.Run.{Run}
 use Rattle.listing.specs.Pass.{Tally, Visit, tags_of, visiting, tally_entering, own_samples, visit_each, ends, visit_of}
 use Rattle.listing.specs.declared.tally.Tally as Lent
 use Rattle.listing.specs.Steps.{TallyWithin, tally_of, tally_in, Counting, Followed, Visited}
@@ -69,9 +69,9 @@ module _ (ws os : List ℕ) (R : Region) (whole : Bool) (row : ℕ) (lent : Lent
   unfolding own_most
   own_start most' start e m c = omega (arith, c.listed, c.limits.visited, budget_most ws)
 
-  pub own_counted : (first most' start : ℕ) (run : Run ℕ) {lent' : Lent.Tally} {listing listing' : List ℕ} → first ≡ octant_field current os row First → most' ≡ most
+  pub own_counted : (first most' start : ℕ) (run : Run) {lent' : Lent.Tally} {listing listing' : List ℕ} → first ≡ octant_field current os row First → most' ≡ most
       → start ≡ lent.listed → Followed ws R whole first most' start listing run listing'
-      → lent' ≡ tally_of run.gathered (visiting whole run.seen (tally_in lent))
+      → lent' ≡ tally_of run.end (visiting whole run.seen (tally_in lent))
       → Visited (own_samples ws os R whole row (tally_in lent)) lent listing lent' listing'
   unfolding own_samples own_rows
   own_counted first most' start run {lent'} {listing} {listing'} a m b f e =

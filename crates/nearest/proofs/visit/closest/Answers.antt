@@ -1,4 +1,4 @@
--- `visit::nearest`: the root is searched, or there is none.
+-- `visit::closest`: the root is searched, or there is none.
 use mathlib.Core.Path.{sym, ap, ap₂, ◌∙◌, subst}
 use native.Mathlib.Omega.{arith}
 use Prim.Native.Nat.{◌-◌, ◌<◌}
@@ -10,7 +10,7 @@ use Rattle.colour.specs.Octant.{root_cube, depths}
 use Rattle.nearest.specs.declared.search.Search.{Search}
 use Rattle.nearest.specs.Search.{search_of}
 use Rattle.nearest.proofs.Laws.Steps.Searching.{no_root, from_root, starting}
-use Rattle.nearest.proofs.visit.nearest.Goals as goal
+use Rattle.nearest.proofs.visit.closest.Goals as goal
 
 pub returns-then-octant_limit-eq0 : goal.returns-then-octant_limit-eq0
 returns-then-octant_limit-eq0 c =
