@@ -28,7 +28,8 @@ pub fn bit_if(test: bool, weight: u32) -> u32
     if test { weight } else { 0 }
 }
 
-// The first if a bit is 0, else the second.
+// The first if a bit is 0, else the second. (It is used channel by channel, of halves that lie side by side and of squares that lie apart: a method for three
+// channels would need both put together first.)
 #[tactic(auto, unfolding(crate::specs::Mask::by_bit))]
 pub fn by_bit<T: Copy>(bit: u32, lower: T, upper: T) -> T
     ensures { result ≡ by_bit bit lower upper }

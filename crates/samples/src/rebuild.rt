@@ -63,7 +63,8 @@ pub fn rebuild(
     rebuild_rows(samples, octants, settings, &mut entries[..n], &mut scratch)
 }
 
-// Whether the samples in the first rows, as many as there are places for entries, are a set whose tree fits that many octant words.
+// Whether the samples in the first rows, as many as there are places for entries, are a set whose tree fits that many octant words. (The first two tests are
+// those of a check too, `octree::tables::hold`: two calls, which a function for both would be as long as.)
 fn rows_accepted(
     samples: &[u32],
     octants: usize,

@@ -68,7 +68,7 @@ fn name_length(field: &[u8]) -> Option<usize>
     Some(n)
 }
 
-// What a line's numbers say, beside a name of the length given.
+// What a line's numbers say, beside a name of the length given. (The three codes have a line each, since each has its place by name in the specification.)
 #[tactic(auto, using(crate::proofs::Laws::Reading::Digits::within_some), unfolding(crate::specs::Computes::sheet_numbers))]
 fn numbers(line: &[u8], name_length: usize) -> Option<Line>
     requires { length line.now ≡ line_length }

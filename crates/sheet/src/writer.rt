@@ -48,7 +48,7 @@ fn put_line(sample: Sample, name: &[u8], line: &mut [u8])
     line[NEWLINE_AT] = b'\n';
 }
 
-// The first of the writer's questions that has a no: the refusal of question 4, 10 or 13.
+// The first of the writer's questions that has a no: the refusal of question 4, 10 or 13. (It takes the three answers, as the definition's list does.)
 #[tactic(auto, unfolding(colour::specs::Question::first_no))]
 fn first_no(codes: bool, name: bool, room: bool) -> Result<(), Refusal>
     ensures { answer_number result ≡ first_no (asks 4 codes ∷ asks 10 name ∷ asks 13 room ∷ []) }
