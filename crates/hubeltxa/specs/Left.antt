@@ -1,8 +1,7 @@
 -- Records of document 01 from the flat numbers, floats and words of a C call: its arguments, and what it leaves.
 use Rattle.std.specs.Prelude.{Result, Ok, Err, ℕ, ◌≤◌, Bool, List, ◌≡◌, eqb, Float}
 use Rattle.colour.specs.declared.Channels.{Channels}
-use Rattle.colour.specs.Channels.{Colour}
-use Rattle.colour.specs.Channels.{PanelColour}
+use Rattle.colour.specs.Channels.{Colour, PanelColour}
 use Rattle.colour.specs.declared.Sample.{Sample}
 use Rattle.colour.specs.Panel.{CodesAnswer, FloatsAnswer}
 use Rattle.colour.specs.declared.refusal.Refusal.{Refusal}
@@ -23,7 +22,7 @@ panel_colour_of r g b = record { red = r; green = g; blue = b }
 abbrev pub sample_of : ℕ → ℕ → ℕ → ℕ → Sample
 sample_of t r g b = record { tag = t; colour = colour_of r g b }
 
--- The channels that an answer gives, or none of them where it refuses.
+-- The channels that an answer gives, or `none` in each if it refuses.
 abbrev pub channels_or : {T : Type 0} → Result (Channels T) Refusal → T → Channels T
 channels_or (Ok c) none = c
 channels_or (Err r) none = record { red = none; green = none; blue = none }
