@@ -10,7 +10,6 @@ pub mod Distance
 pub mod Gaps
 pub mod Extremes
 pub mod Mask
-pub mod Nearby
 pub mod Halves
 pub mod Questions
 pub mod Refused

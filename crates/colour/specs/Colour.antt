@@ -1,6 +1,7 @@
 -- Codes, colours and their distance (document 01, "Colours and octants"; d² from "Picks").
 use Rattle.std.specs.Prelude.{ℕ, ◌+◌, ◌-◌, ◌*◌, ◌%◌, ◌^◌, ◌≤◌, Bool, ◌&&◌, leb, ltb}
 use Rattle.colour.specs.Channels.{Colour}
+use Rattle.colour.specs.declared.Probe.{Probe}
 
 -- The three channels, so that a fact about a channel is stated once.
 pub data Channel : Type 0 where
@@ -60,6 +61,6 @@ greatest_distance = 12884508675
 unfoldable pub apart : ℕ → ℕ → ℕ
 apart x y = (x - y) + (y - x)
 
--- d²: the sum of the three squared code differences.
-unfoldable pub distance : Colour → Colour → ℕ
-distance a b = sum_of (λ h. apart (code_in h a) (code_in h b) * apart (code_in h a) (code_in h b))
+-- d² of a colour from a probe: the sum of the three squared code differences.
+unfoldable pub distance : Probe → Colour → ℕ
+distance p c = sum_of (λ h. apart (code_in h p.centre) (code_in h c) * apart (code_in h p.centre) (code_in h c))

@@ -1,12 +1,13 @@
--- How far the children of an octant are from a colour.
+-- How far the children of an octant are from a probe, and which of them a colour is closest to.
 use Rattle.std.specs.Prelude.{ℕ, ◌+◌, leb}
 use Rattle.colour.specs.Channels.{Colour}
 use Rattle.colour.specs.declared.Channels.{Channels}
+use Rattle.colour.specs.declared.Probe.{Probe}
 use Rattle.colour.specs.declared.overlap.Halves.{Halves}
 use Rattle.colour.specs.Colour.{code_in, sum_of}
 use Rattle.colour.specs.Octant.{bit_weight}
 use Rattle.colour.specs.Mask.{bit_if}
-use Rattle.colour.specs.Steps.{closest_square, halves_of, of_channel, child_sum, Small}
+use Rattle.colour.specs.Steps.{closest_square, halves_of, Small}
 
 -- The child, of side s, of the octant at low that a colour lies in or is closest to: in each channel the upper half where the code is at the middle or past it.
 unfoldable pub closest_child : Colour → ℕ → Colour → ℕ
@@ -17,17 +18,13 @@ abbrev pub Gaps : Type 0
 Gaps = Channels Halves
 
 -- What each half of each channel adds to the closest d² of a child, of side s, of the octant at low.
-unfoldable pub gaps_of : Colour → ℕ → Colour → Gaps
-gaps_of c s low =
+unfoldable pub gaps_of : Probe → ℕ → Colour → Gaps
+gaps_of p s low =
     record {
-      red = halves_of (closest_square c.red) s low.red;
-      green = halves_of (closest_square c.green) s low.green;
-      blue = halves_of (closest_square c.blue) s low.blue;
+      red = halves_of (closest_square p.centre.red) s low.red;
+      green = halves_of (closest_square p.centre.green) s low.green;
+      blue = halves_of (closest_square p.centre.blue) s low.blue;
     }
-
--- Child k's sum: d² to its closest colour (`closest_by_lem` of proofs/Laws/Nearby.antt).
-unfoldable pub closest_by : Gaps → ℕ → ℕ
-closest_by g k = child_sum (of_channel g) k
 
 -- All are squares of codes at most.
 pub record SmallGaps (g : Gaps) : Type 0 where

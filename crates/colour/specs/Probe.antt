@@ -1,4 +1,4 @@
--- What a search by path measures distances from (document 01, "Picks").
+-- What distances are measured from (document 01, "Picks").
 use Rattle.colour.specs.Channels.{Colour}
 use Rattle.colour.specs.declared.Probe.{Probe}
 use Rattle.colour.specs.Colour.{InRange}

@@ -2,6 +2,7 @@
 use Rattle.std.specs.Prelude.{ℕ, Result, Ok, Err, Bool, true, false, ◌&&◌, List, [], ◌∷◌, leb, Float}
 use Rattle.colour.specs.Channels.{Colour}
 use Rattle.colour.specs.Channels.{PanelColour}
+use Rattle.colour.specs.declared.Probe.{Probe}
 use Rattle.colour.specs.declared.Query.{Query}
 use Rattle.colour.specs.declared.Query.TheVariants as Q
 use Rattle.colour.specs.declared.Region.TheVariants as R
@@ -10,6 +11,7 @@ use Rattle.colour.specs.declared.refusal.Refusal.TheVariants.{OutOfRange}
 use Rattle.colour.specs.declared.panel.Wanted.{Wanted}
 use Rattle.colour.specs.declared.panel.Wanted.TheVariants as W
 use Rattle.colour.specs.Colour.{code_in, each}
+use Rattle.colour.specs.Probe.{probe}
 use Rattle.colour.specs.Panel.{panel_good, radius_good, codes_of, code_of}
 use Rattle.colour.specs.Question.{Question, asks}
 
@@ -17,9 +19,9 @@ use Rattle.colour.specs.Question.{Question, asks}
 unfoldable pub ordered : Colour → Colour → Bool
 ordered lo hi = each (λ h. leb (code_in h lo) (code_in h hi))
 
--- A centre and a radius in codes, or the refusal.
-unfoldable pub sphere_if : Bool → PanelColour → Float → Result (Colour × ℕ) Refusal
-sphere_if true c r = Ok (codes_of c, code_of r)
+-- A probe at a centre, and a radius in codes, or the refusal.
+unfoldable pub sphere_if : Bool → PanelColour → Float → Result (Probe × ℕ) Refusal
+sphere_if true c r = Ok (probe (codes_of c), code_of r)
 sphere_if false c r = Err OutOfRange
 
 -- Question 9: as under Gestures?
@@ -34,9 +36,9 @@ query_questions q = asks 9 (query_good q) ∷ []
 
 -- What a query wants, in codes.
 unfoldable pub in_codes : Query → Wanted
-in_codes (Q.Ball c r) = W.Listed (R.Ball (codes_of c) (code_of r))
+in_codes (Q.Ball c r) = W.Listed (R.Ball (probe (codes_of c)) (code_of r))
 in_codes (Q.Box lo hi) = W.Listed (R.Box (codes_of lo) (codes_of hi))
-in_codes (Q.Nearest c r) = W.Nearest (codes_of c) (code_of r)
+in_codes (Q.Nearest c r) = W.Nearest (probe (codes_of c)) (code_of r)
 
 -- A query taken apart.
 unfoldable pub asked_of : Query → Result Wanted Refusal

@@ -3,7 +3,7 @@ use Rattle.std.specs.Prelude.{ℕ, ◌*◌, Bool, true, false, ◌&&◌, leb, lt
 use Rattle.colour.specs.Channels.{Colour}
 use Rattle.colour.specs.declared.Region.{Region}
 use Rattle.colour.specs.declared.Region.TheVariants.{Ball, Box}
-use Rattle.colour.specs.Colour.{code_in, colour_by, each, apart, distance, InRange}
+use Rattle.colour.specs.Colour.{code_in, colour_by, each, apart, distance}
 use Rattle.colour.specs.Octant.{last_code}
 
 -- The code from low to high that is closest to x.
@@ -24,20 +24,15 @@ farthest c s low = colour_by (λ h. farthest_code (code_in h low) (last_code s (
 
 -- Whether a colour is in it. Ball: d² < r². Box: low ≤ code ≤ high in all channels.
 unfoldable pub holds : Region → Colour → Bool
-holds (Ball c r) x = ltb (distance c x) (r * r)
+holds (Ball p r) x = ltb (distance p x) (r * r)
 holds (Box lo hi) x = each (λ h. leb (code_in h lo) (code_in h x) && leb (code_in h x) (code_in h hi))
 
 -- An octant overlaps a ball when its closest colour to the centre has d² < r², and a box when some colour is in it.
 unfoldable pub overlaps : Region → ℕ → Colour → Bool
-overlaps (Ball c r) s low = ltb (distance c (closest c s low)) (r * r)
+overlaps (Ball p r) s low = ltb (distance p (closest p.centre s low)) (r * r)
 overlaps (Box lo hi) s low = each (λ h. leb (code_in h lo) (last_code s (code_in h low)) && leb (code_in h low) (code_in h hi))
 
 -- It is inside a ball when its farthest colour has d² < r², and inside a box when all colours are in it.
 unfoldable pub inside : Region → ℕ → Colour → Bool
-inside (Ball c r) s low = ltb (distance c (farthest c s low)) (r * r)
+inside (Ball p r) s low = ltb (distance p (farthest p.centre s low)) (r * r)
 inside (Box lo hi) s low = each (λ h. leb (code_in h lo) (code_in h low) && leb (last_code s (code_in h low)) (code_in h hi))
-
--- What the functions ask of a region: a ball's centre is a colour. A box's codes are only compared, so any will do.
-unfoldable pub Fair : Region → Type 0
-Fair (Ball c r) = InRange c
-Fair (Box lo hi) = Unit

@@ -27,12 +27,12 @@ missed a b s low = noes (leb a (last_code s low) && leb low b)
 
 -- What the s codes from low of a channel add, for either region.
 unfoldable pub share : Region → Channel → ℕ → ℕ → ℕ
-share (Ball c r) h s low = closest_square (code_in h c) s low
+share (Ball p r) h s low = closest_square (code_in h p.centre) s low
 share (Box a b) h s low = missed (code_in h a) (code_in h b) s low
 
 -- An octant overlaps where its channels add up to less than this (`overlaps_shares` of proofs/Laws/Halves.antt).
 unfoldable pub limit_of : Region → ℕ
-limit_of (Ball c r) = r * r
+limit_of (Ball p r) = r * r
 limit_of (Box a b) = 1
 
 -- f of the lower and of the upper half of a channel, whose s + s codes start at low.

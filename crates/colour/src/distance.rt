@@ -1,8 +1,8 @@
-// The squared distance of two colours, in 64 bits: three squares of codes do not fit 32.
+// The squared distance of a colour from a probe, in 64 bits: three squares of codes do not fit 32.
 ghost use Rattle.std.specs.Prelude.{pos, ◌-ℤ◌, ◌≡◌, ◌*◌, ◌≤◌};
 ghost use Rattle.colour.specs.Colour.{apart, distance, greatest_distance};
 
-use crate::Codes;
+use crate::{Codes, Probe};
 
 // Any 32-bit number's square fits 64 bits.
 pub fn square(x: u32) -> u64
@@ -29,11 +29,11 @@ fn apart_square(x: u16, y: u16) -> u64
     (apart * apart) as u64
 }
 
-// d² of two colours.
+// d² of a colour from a probe.
 #[tactic(auto, unfolding(crate::specs::Colour::distance, crate::specs::Colour::sum_of, crate::specs::Colour::code_in))]
-pub fn squared(a: Codes, b: Codes) -> u64
-    ensures is { result ≡ distance a b }
+pub fn squared(p: Probe, c: Codes) -> u64
+    ensures is { result ≡ distance p c }
     ensures bounded { result ≤ greatest_distance }
 {
-    a.zip(b).map(|(x, y)| apart_square(x, y)).sum()
+    p.centre.zip(c).map(|(x, y)| apart_square(x, y)).sum()
 }

@@ -126,16 +126,17 @@ pub enum Query {
     Nearest(PanelColour, f32),
 }
 
-// What a search by path measures distances from: a centre.
+// What distances are measured from: a centre.
 #[derive(Clone, Copy)]
 pub struct Probe {
     pub centre: Codes,
 }
 
-// The colours that a ball or a box asks for, in codes. A box's words are only compared, so any will do.
+// The colours that a ball or a box asks for, in codes: those within a radius of a probe, or from a low colour to a high one. A box's words are only
+// compared, so any will do.
 #[derive(Clone, Copy)]
 pub enum Region {
-    Ball(Codes, u32),
+    Ball(Probe, u32),
     Box(Colour, Colour),
 }
 

@@ -13,29 +13,31 @@ use crate::mask::bit_if;
 use crate::nearby::gaps_of;
 use crate::octant::Parent;
 use crate::span::{Split, spans, splits};
-use crate::{Channels, Codes, Colour, Cube, Region};
+use crate::{Channels, Codes, Colour, Cube, Probe, Region};
 
-// d² from a colour to an octant's closest colour. (Not one function over the gap with the next: its contract would have to say of each channel what the
+// d² from a probe to an octant's closest colour. (Not one function over the gap with the next: its contract would have to say of each channel what the
 // gap's does, and be longer than both.)
 #[tactic(auto, unfolding(crate::specs::Colour::distance, crate::specs::Colour::sum_of, crate::specs::Region::closest, crate::specs::Colour::colour_by, crate::specs::Colour::code_in, crate::specs::Steps::closest_square))]
-pub fn closest_distance(c: Codes, cube: Cube) -> u64
+pub fn closest_distance(p: Probe, cube: Cube) -> u64
     requires { Within cube }
-    ensures is { result ≡ distance c (closest c cube.side cube.low) }
+    ensures is { result ≡ distance p (closest p.centre cube.side cube.low) }
     ensures bounded { result ≤ greatest_distance }
 {
-    c.zip(spans(cube))
+    p.centre
+        .zip(spans(cube))
         .map(|(x, span)| span.closest_square(x))
         .sum()
 }
 
-// d² from a colour to an octant's farthest colour.
+// d² from a probe to an octant's farthest colour.
 #[tactic(auto, unfolding(crate::specs::Colour::distance, crate::specs::Colour::sum_of, crate::specs::Region::farthest, crate::specs::Colour::colour_by, crate::specs::Colour::code_in, crate::specs::Steps::farthest_square))]
-pub fn farthest_distance(c: Codes, cube: Cube) -> u64
+pub fn farthest_distance(p: Probe, cube: Cube) -> u64
     requires { Within cube }
-    ensures is { result ≡ distance c (farthest c cube.side cube.low) }
+    ensures is { result ≡ distance p (farthest p.centre cube.side cube.low) }
     ensures bounded { result ≤ greatest_distance }
 {
-    c.zip(spans(cube))
+    p.centre
+        .zip(spans(cube))
         .map(|(x, span)| span.farthest_square(x))
         .sum()
 }
@@ -87,7 +89,7 @@ pub fn holds(region: Region, c: Codes) -> bool
     ensures { result ≡ holds region c }
 {
     match region {
-        Region::Ball(centre, radius) => squared(centre, c) < square(radius),
+        Region::Ball(p, radius) => squared(p, c) < square(radius),
         Region::Box(low, high) => box_holds(low, high, c),
     }
 }
@@ -99,21 +101,21 @@ pub fn overlaps(region: Region, cube: Cube) -> bool
     ensures { result ≡ overlaps region cube.side cube.low }
 {
     match region {
-        Region::Ball(centre, radius) => closest_distance(centre, cube) < square(radius),
+        Region::Ball(p, radius) => closest_distance(p, cube) < square(radius),
         Region::Box(low, high) => box_overlaps(low, high, cube),
     }
 }
 
 // Whether every colour of an octant is in a ball. An octant's farthest colour is at least half a side away, so most octants need no distance.
 #[tactic(auto, unfolding(crate::specs::Region::inside), using(crate::proofs::Laws::Extremes::half_outside, crate::proofs::Laws::Cubes::cube_room))]
-fn ball_inside(centre: Codes, radius: u32, cube: Cube) -> bool
+fn ball_inside(p: Probe, radius: u32, cube: Cube) -> bool
     requires { Within cube }
-    ensures { result ≡ inside (Region.Ball centre radius) cube.side cube.low }
+    ensures { result ≡ inside (Region.Ball p radius) cube.side cube.low }
 {
     if radius <= cube.side / 2 {
         return false;
     }
-    farthest_distance(centre, cube) < square(radius)
+    farthest_distance(p, cube) < square(radius)
 }
 
 // Whether every colour of an octant is in a region.
@@ -123,7 +125,7 @@ pub fn inside(region: Region, cube: Cube) -> bool
     ensures { result ≡ inside region cube.side cube.low }
 {
     match region {
-        Region::Ball(centre, radius) => ball_inside(centre, radius, cube),
+        Region::Ball(p, radius) => ball_inside(p, radius, cube),
         Region::Box(low, high) => box_inside(low, high, cube),
     }
 }
@@ -186,11 +188,11 @@ fn mask(halves: Channels<Halves>, limit: u64) -> u32
         + bit(red.upper, green.upper, blue.upper, limit, 128)
 }
 
-fn ball_overlapping(centre: Codes, radius: u32, parent: Parent) -> u32
-    ensures is { result ≡ overlap_mask (Region.Ball centre radius) parent.half parent.cube.low }
+fn ball_overlapping(p: Probe, radius: u32, parent: Parent) -> u32
+    ensures is { result ≡ overlap_mask (Region.Ball p radius) parent.half parent.cube.low }
     ensures bounded { result < 256 }
 {
-    mask(gaps_of(centre, parent), square(radius))
+    mask(gaps_of(p, parent), square(radius))
 }
 
 #[tactic(auto, unfolding(crate::specs::Colour::code_in, crate::specs::Steps::halves_of, crate::specs::Steps::limit_of, crate::specs::Steps::share), using(crate::proofs::Laws::Halves::mask_overlaps))]
@@ -211,7 +213,7 @@ pub fn overlapping(region: Region, parent: Parent) -> u32
     ensures bounded { result < 256 }
 {
     match region {
-        Region::Ball(centre, radius) => ball_overlapping(centre, radius, parent),
+        Region::Ball(p, radius) => ball_overlapping(p, radius, parent),
         Region::Box(low, high) => box_overlapping(low, high, parent),
     }
 }

@@ -8,13 +8,13 @@ ghost use Rattle.colour.specs.Question.{first_no};
 ghost use Rattle.colour.specs.Refusal.{answer_number};
 
 use crate::refusal::Refusal;
-use crate::{Codes, Colour, PanelColour, Query, Region};
+use crate::{Codes, Colour, PanelColour, Probe, Query, Region};
 
-// What a query wants, in codes: what lies in a region, or what is nearest to a centre within a radius.
+// What a query wants, in codes: what lies in a region, or what is nearest to a probe within a radius.
 #[derive(Clone, Copy)]
 pub enum Wanted {
     Listed(Region),
-    Nearest(Codes, u32),
+    Nearest(Probe, u32),
 }
 
 // The code of v, which has to be below 2 to the power twos, by sign, exponent and fraction out of its bits.
@@ -137,13 +137,13 @@ fn at_most(low: Codes, high: Codes) -> bool
     low.zip(high).map(|(least, most)| least <= most).every()
 }
 
-// A centre and a radius in codes.
-fn sphere_of(centre: PanelColour, radius: f32) -> Result<(Codes, u32), Refusal>
+// A probe at a centre, and a radius in codes.
+pub fn sphere_of(centre: PanelColour, radius: f32) -> Result<(Probe, u32), Refusal>
     ensures { result ≡ sphere_if (panel_good centre && radius_good radius) centre radius }
 {
     let c = Codes::try_from(centre)?;
     let r = radius_code(radius)?;
-    Ok((c, r))
+    Ok((Probe { centre: c }, r))
 }
 
 // What a box asks.
@@ -168,13 +168,13 @@ impl TryFrom<Query> for Wanted {
     fn try_from(q: Query) -> Result<Self, Refusal> {
         match q {
             Query::Ball(centre, radius) => {
-                let (c, r) = sphere_of(centre, radius)?;
-                Ok(Wanted::Listed(Region::Ball(c, r)))
+                let (p, r) = sphere_of(centre, radius)?;
+                Ok(Wanted::Listed(Region::Ball(p, r)))
             }
             Query::Box(low, high) => box_asked(low, high),
             Query::Nearest(centre, radius) => {
-                let (c, r) = sphere_of(centre, radius)?;
-                Ok(Wanted::Nearest(c, r))
+                let (p, r) = sphere_of(centre, radius)?;
+                Ok(Wanted::Nearest(p, r))
             }
         }
     }

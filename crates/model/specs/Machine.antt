@@ -1,7 +1,7 @@
 -- The reference machine (document 01, "The bin": the plain machine; and "Questions").
 use Rattle.std.specs.Prelude.{ℕ, suc, Bool, true, false, not, List, [], ◌∷◌, ◌++◌, leb, eqb, length, drop, Option, None, Some, is_some}
 use Rattle.std.proofs.Math.Option as M
-use Rattle.colour.specs.Channels.{Colour}
+use Rattle.colour.specs.declared.Probe.{Probe}
 use Rattle.colour.specs.declared.Sample.{Sample}
 use Rattle.colour.specs.declared.Settings.{Settings}
 use Rattle.colour.specs.declared.Query.{Query}
@@ -129,7 +129,7 @@ room_questions tags listing = asks 13 (leb (length tags) (length listing)) ∷ [
 -- A ball and a box are asked that, nearest is not.
 unfoldable pub wanted_questions : SampleSet → Wanted → List ℕ → List Question
 wanted_questions set (W.Listed R) listing = room_questions (listed R set) listing
-wanted_questions set (W.Nearest c r) listing = []
+wanted_questions set (W.Nearest p r) listing = []
 
 -- 3: b in 1..256?
 unfoldable pub clear_questions : Settings → List Question
@@ -162,9 +162,9 @@ load_lines m taken (Some line ∷ rest) =
     elim (eqb n 0) [ true ↦ load_lines (with_set m (added m.set line.sample)) (suc taken) rest | false ↦ loaded m n taken ]
 
 -- Nearest gives the tag and d², or says none with both 0; it uses no listing.
-unfoldable pub found_answer : Colour → M.Option Placed → List ℕ → Answer
-found_answer c M.none left = nearest_answer 0 false 0 0 left
-found_answer c (M.some x) left = nearest_answer 0 true (tag_of x) (distance c x.sample.colour) left
+unfoldable pub found_answer : Probe → M.Option Placed → List ℕ → Answer
+found_answer p M.none left = nearest_answer 0 false 0 0 left
+found_answer p (M.some x) left = nearest_answer 0 true (tag_of x) (distance p x.sample.colour) left
 
 -- Ball and box write from the listing's first word and leave the rest.
 unfoldable pub listing_answer : List ℕ → Counts → List ℕ → Answer
@@ -173,7 +173,7 @@ listing_answer tags c listing = list_answer 0 (length tags) c (tags ++ drop (len
 -- The answer of a query that wants this.
 unfoldable pub wanted_answer : SampleSet → Wanted → List ℕ → Answer
 wanted_answer set (W.Listed R) listing = listing_answer (listed R set) (counts R set) listing
-wanted_answer set (W.Nearest c r) listing = found_answer c (nearest c r set) listing
+wanted_answer set (W.Nearest p r) listing = found_answer p (nearest p r set) listing
 
 -- What acceptance does. Queries change nothing.
 unfoldable pub accepted : Machine → Call → Outcome

@@ -2,6 +2,7 @@
 use Rattle.std.specs.Prelude.{ℕ, zero, suc, ◌*◌, ◌^◌, true, false, List, [], ◌∷◌, map, ltb, length}
 use Rattle.std.proofs.Math.Option.{Option, none, some}
 use Rattle.colour.specs.Channels.{Colour}
+use Rattle.colour.specs.declared.Probe.{Probe}
 use Rattle.colour.specs.declared.Region.{Region}
 use Rattle.colour.specs.Colour.{black, distance}
 use Rattle.colour.specs.Octant.{depths, children, child_low}
@@ -69,14 +70,14 @@ or_else none x = x
 or_else (some y) x = y
 
 -- Of a list in order: the first is found if it is below the limit and no later one is closer.
-unfoldable pub nearest_in : Colour → ℕ → List Placed → Option Placed
-nearest_in c limit [] = none
-nearest_in c limit (x ∷ rest) =
-    elim (ltb (distance c x.sample.colour) limit) [
-      | true ↦ some (or_else (nearest_in c (distance c x.sample.colour) rest) x)
-      | false ↦ nearest_in c limit rest
+unfoldable pub nearest_in : Probe → ℕ → List Placed → Option Placed
+nearest_in p limit [] = none
+nearest_in p limit (x ∷ rest) =
+    elim (ltb (distance p x.sample.colour) limit) [
+      | true ↦ some (or_else (nearest_in p (distance p x.sample.colour) rest) x)
+      | false ↦ nearest_in p limit rest
     ]
 
 -- Near: the least d² < r² in the order.
-unfoldable pub nearest : Colour → ℕ → SampleSet → Option Placed
-nearest c r set = nearest_in c (r * r) (order set)
+unfoldable pub nearest : Probe → ℕ → SampleSet → Option Placed
+nearest p r set = nearest_in p (r * r) (order set)

@@ -1,7 +1,7 @@
--- What the proofs of the functions cite.
-pub mod Folds
-pub mod Bounds
-pub mod Entered
-pub mod Steps
-pub mod Sound
+-- What the proofs of nearest by path cite.
+pub mod Closer
+pub mod Measuring
+pub mod Starting
 pub mod Limits
+pub mod Least
+pub mod Found

@@ -1,2 +1,2 @@
--- Laws and proofs of nearest.
+-- Laws and proofs of nearest by path.
 pub mod Laws

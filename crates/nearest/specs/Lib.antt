@@ -1,4 +1,3 @@
--- Nearest over any words of the tables.
+-- Nearest by path, over any words of the tables.
 pub mod Best
-pub mod Search
 pub mod Steps

@@ -1,15 +1,21 @@
--- What the functions under nearest ask and promise. No call's own promise cites these.
-use Rattle.std.specs.Prelude.{ℕ, ◌≤◌, ◌<◌, List}
-use Rattle.model.specs.Layout.{current}
-use Rattle.words.specs.Rows.{octant_limit, sample_budget}
-use Rattle.nearest.specs.declared.search.Search.{Search}
+-- What the functions under nearest by path ask and promise. No call's own promise cites these.
+use Rattle.std.specs.Prelude.{ℕ, ◌+◌}
+use Rattle.traversal.specs.Search.{Searching}
+use Rattle.nearest.specs.declared.best.Search.{Search}
+use Rattle.nearest.specs.Best.{Kept, taken_rank}
 
--- A search within a budget of samples and a limit of octants.
-pub record SearchWithin (budget limit : ℕ) (s : Search) : Type 0 where
-  pub entered : s.entered ≤ limit
-  pub visited : s.visited ≤ budget
+-- A search as it is lent, and the search that this says.
+abbrev pub search_as : Searching Kept → Search
+search_as s = record { distance = s.kept.distance; octant = s.kept.octant; row = s.kept.row; entered = s.entered; visited = s.visited }
 
--- What is known wherever a search stands: the limit fits 32 bits, and it is within the tables' bounds.
-pub record Ready (ws os : List ℕ) (s : Search) : Type 0 where
-  pub small : octant_limit current os < 4294967296
-  pub limits : SearchWithin (sample_budget current ws) (octant_limit current os) s
+abbrev pub search_in : Search → Searching Kept
+search_in lent =
+    record { kept = record { distance = lent.distance; octant = lent.octant; row = lent.row }; entered = lent.entered; visited = lent.visited }
+
+-- What is lent once a search has gone on.
+abbrev pub search_after : (Searching Kept → Searching Kept) → Search → Search
+search_after goes lent = search_as (goes (search_in lent))
+
+-- So many samples of an octant were measured, and this is their least rank.
+unfoldable pub search_ranked : ℕ → ℕ → ℕ → Searching Kept → Searching Kept
+search_ranked octant rank seen s = record { kept = taken_rank s.kept octant rank; entered = s.entered; visited = s.visited + seen }

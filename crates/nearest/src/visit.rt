@@ -1,112 +1,112 @@
-// The search: it recurses through octants, the depth left falling, and takes the closest child first.
-ghost use Rattle.std.specs.Prelude.{◌-◌, ◌*◌, ◌≤◌, ◌<◌, ◌&&◌, ◌≡◌, ltb};
-ghost use Rattle.colour.specs.Octant.{Within};
-ghost use Rattle.colour.specs.Nearby.{closest_by, SmallGaps};
+// The search: it recurses through octants, the depth left falling, and takes the closest child first. Its siblings are looked at once it is done: most are
+// then too far.
+ghost use Rattle.std.specs.Prelude.{◌*◌, ◌≤◌, ◌<◌, ◌≡◌};
 ghost use Rattle.model.specs.Layout.{current};
 ghost use Rattle.words.specs.Rows.{octant_limit};
-ghost use Rattle.nearest.specs.Best.{closer, found_if};
-ghost use Rattle.nearest.specs.Search.{search_entering, search_of, no_search, search_all};
-ghost use Rattle.nearest.specs.Steps.{Ready};
+ghost use Rattle.traversal.specs.Steps.{SearchReady};
+ghost use Rattle.traversal.specs.Spot.{Stood, search_at, siblings_at, split_at};
+ghost use Rattle.nearest.specs.Best.{bests, found_of, best_found};
+ghost use Rattle.nearest.specs.Steps.{search_after, search_in};
 
-use crate::best::{Best, closer};
-use crate::search::{Search, own};
+use crate::best::{Best, Search};
+use crate::leaf::own;
+use colour::Probe;
 use colour::distance::square;
-use colour::nearby::{closest_by, closest_child, gaps_of};
-use colour::octant::{child, parent_of, root};
-use colour::overlap::Halves;
-use colour::{Channels, Codes, Cube};
-use traversal::octant::ends;
-use words::layout::octant_child;
+use traversal::children::children_in;
+use traversal::nearby::turns;
+use traversal::octant::{child_at, ends};
+use traversal::spot::{Crossing, Spot, root_spot};
+use words::layout::{sample_rows, tag as tag_of};
 use words::tables::Tables;
 
-// How many children an octant of side over 1 has.
-const CHILDREN: u32 = 8;
-
-// One octant more is entered.
-#[tactic(auto, unfolding(crate::specs::Search::search_entering))]
-fn enter(search: Search) -> Search
-    requires { search.entered < 4294967295 }
-    ensures { result ≡ search_entering search }
+// The siblings of the closest child, in turn: those that are still close enough.
+#[cycle(siblings_split_visit)]
+fn siblings(tables: &Tables<'_>, row: u32, at: Crossing, search: &mut Search)
+    requires row_bound { row < octant_limit current tables.now.octants.now }
+    requires ready { SearchReady tables.now.samples.now tables.now.octants.now (search_in search.old) }
+    ensures { search.new
+        ≡ search_after
+        (siblings_at (bests tables.now.samples.now at.probe) tables.now.samples.now tables.now.octants.now at.probe row at.spot)
+        search.old }
 {
-    Search {
-        best: search.best,
-        entered: search.entered + 1,
-        visited: search.visited,
-    }
-}
-
-// Whether child k, in a row, is entered: it is there, another octant may be entered, and it can hold something that comes before the best. How far it is
-// is worked out last: most octants have few children.
-fn reaches(search: Search, row: u32, limit: u32, gaps: Channels<Halves>, k: u32) -> bool
-    requires { SmallGaps gaps }
-    ensures { result
-        ≡ ((ltb 0 row && ltb row limit) && (ltb search.entered limit && closer search.best (closest_by gaps k) row)) }
-{
-    if ((0 < row) & (row < limit)) & (search.entered < limit) {
-        return closer(search.best, closest_by(gaps, k), row);
-    }
-    false
-}
-
-// Enters the octant in a row. Turn 0 takes the child that the centre lies in or is closest to; each other turn one that differs from it in the
-// channels of the turn's bits. (The centre goes by reference: by value each call would copy it, in pieces that are read before they are there.)
-fn visit(tables: &Tables<'_>, centre: &Codes, row: u32, cube: Cube, from: Search) -> Search
-    requires within { Within cube }
-    requires ready { Ready tables.now.samples.now tables.now.octants.now from }
-    requires row_bound { (row < octant_limit current tables.now.octants.now)
-        × (from.entered < octant_limit current tables.now.octants.now) }
-    ensures { result ≡ search_of tables.now.samples.now tables.now.octants.now centre.now (16 - cube.depth) row cube.low from }
-{
-    let mut search = enter(from);
-    if ends(tables, false, cube.depth, row) {
-        return own(tables, *centre, row, search);
-    }
+    let far = at.far();
     let limit = tables.octant_limit();
-    let parent = parent_of(cube);
-    let gaps = gaps_of(*centre, parent);
-    let first = closest_child(*centre, parent);
-    for turn in 0..CHILDREN {
-        let k = first ^ turn;
-        let next = octant_child(tables.octants, row, k);
-        if reaches(search, next, limit, gaps, k) {
-            search = visit(tables, centre, next, child(parent, k), search);
+    for turn in children_in(turns(search.distance, at.spot.near, far)) {
+        let next = child_at(tables.octants, row, at.fork.first ^ turn);
+        let to = at.sibling(far, turn);
+        if search.reaches(next, limit, to.near.sum()) {
+            visit(tables, at.probe, next, to, search);
         }
     }
-    search
 }
 
-// Before a search.
-#[tactic(auto, unfolding(crate::specs::Best::unfound, crate::specs::Search::no_search))]
-fn start(radius: u32) -> Search
-    ensures { result ≡ no_search radius }
+// A split octant: the closest child, and then its siblings. (In a function of its own: in `visit`, what is handed on would be copied in pieces.)
+#[cycle(siblings_split_visit)]
+fn split(tables: &Tables<'_>, row: u32, at: Crossing, search: &mut Search)
+    requires row_bound { row < octant_limit current tables.now.octants.now }
+    requires ready { SearchReady tables.now.samples.now tables.now.octants.now (search_in search.old) }
+    ensures { search.new
+        ≡ search_after
+        (split_at (bests tables.now.samples.now at.probe) tables.now.samples.now tables.now.octants.now at.probe row at.spot)
+        search.old }
 {
-    Search {
-        best: Best {
-            distance: square(radius),
-            octant: 0,
-            tag: 0,
-        },
-        entered: 0,
-        visited: 0,
+    let next = child_at(tables.octants, row, at.fork.first);
+    let to = at.closest();
+    if search.reaches(next, tables.octant_limit(), to.near.sum()) {
+        visit(tables, at.probe, next, to, search);
     }
+    siblings(tables, row, at, search);
 }
 
-// The search for the closest sample: the root is entered where it is there.
-fn closest(tables: &Tables<'_>, centre: Codes, radius: u32) -> Best
-    ensures { result ≡ (search_all tables.now.samples.now tables.now.octants.now centre radius).best }
+// Enters the octant in a row: its own samples are measured, or its children are searched.
+#[cycle(siblings_split_visit)]
+fn visit(tables: &Tables<'_>, p: Probe, row: u32, spot: Spot, search: &mut Search)
+    requires stood { (Stood p spot) × (row < octant_limit current tables.now.octants.now) }
+    requires ready { SearchReady tables.now.samples.now tables.now.octants.now (search_in search.old) }
+    requires search_bound { search.old.entered < octant_limit current tables.now.octants.now }
+    ensures { search.new
+        ≡ search_after (search_at (bests tables.now.samples.now p) tables.now.samples.now tables.now.octants.now p row spot)
+        search.old }
 {
-    let none = start(radius);
-    if tables.octant_limit() == 0 {
-        return none.best;
+    search.enter();
+    if ends(tables, false, spot.cube.depth, row) {
+        own(tables, p, row, search);
+        return;
     }
-    visit(tables, &centre, 0, root(), none).best
+    split(tables, row, Crossing::new(p, spot), search);
 }
 
-// Nearest over codes: what is found, if anything is.
-#[tactic(auto, unfolding(crate::specs::Best::found_if))]
-pub fn nearest(tables: &Tables<'_>, centre: Codes, radius: u32) -> Option<Best>
-    ensures { result ≡ found_if (radius * radius) (search_all tables.now.samples.now tables.now.octants.now centre radius).best }
+// What is found, with its tag: nothing, if the closest is still at the limit. The row is tested before it is read.
+fn best_of(samples: &[u32], search: &Search, limit: u64) -> Option<Best>
+    ensures { result ≡ found_of samples.now limit (search_in search.now).kept }
 {
-    let best = closest(tables, centre, radius);
-    (best.distance < square(radius)).then_some(best)
+    if limit <= search.distance {
+        return None;
+    }
+    let row = search.row as usize;
+    if row < sample_rows(samples.len()) {
+        return Some(Best {
+            distance: search.distance,
+            row: row as u32,
+            tag: tag_of(samples, row),
+        });
+    }
+    Some(Best {
+        distance: search.distance,
+        row: 0,
+        tag: 0,
+    })
+}
+
+// Nearest over codes: the root is entered if it is there.
+#[tactic(auto, unfolding(crate::specs::Best::best_found), using(crate::proofs::Laws::Starting::begin_ready, crate::proofs::Laws::Starting::begin_room, crate::proofs::Laws::Starting::from_root, crate::proofs::Laws::Starting::no_root, traversal::proofs::Laws::Search::Spots::root_stood))]
+pub fn nearest(tables: &Tables<'_>, p: Probe, radius: u32) -> Option<Best>
+    ensures { result ≡ best_found tables.now.samples.now tables.now.octants.now p radius }
+{
+    let limit = square(radius);
+    let mut search = Search::new(limit);
+    if 0 < tables.octant_limit() {
+        visit(tables, p, 0, root_spot(p), &mut search);
+    }
+    best_of(tables.samples, &search, limit)
 }

@@ -1,7 +1,7 @@
 -- What a query answers (document 01, "Picks" and "Questions"): the paper's number and values for each case of the enum, and the answer on any words at
 -- all, by the pass or the search over them.
-use Rattle.std.specs.Prelude.{Some, None, Result, Ok, Err, ℕ, ◌*◌, ◌≤◌, Bool, true, false, not, List, ◌∷◌, ◌≡◌, length}
-use Rattle.colour.specs.Channels.{Colour}
+use Rattle.std.specs.Prelude.{Some, None, Result, Ok, Err, ℕ, ◌≤◌, Bool, true, false, not, List, ◌∷◌, ◌≡◌, length}
+use Rattle.colour.specs.declared.Probe.{Probe}
 use Rattle.colour.specs.declared.Query.{Query}
 use Rattle.colour.specs.declared.Region.{Region}
 use Rattle.colour.specs.declared.panel.Wanted.{Wanted}
@@ -18,8 +18,7 @@ use Rattle.model.specs.Meets.{Meets}
 use Rattle.words.specs.Rows.{octant_limit, sample_budget}
 use Rattle.listing.specs.Pass.{pass_of}
 use Rattle.listing.specs.Answers.{pass_answer}
-use Rattle.nearest.specs.Best.{best_answer}
-use Rattle.nearest.specs.Search.{search_all}
+use Rattle.nearest.specs.Best.{search_best, best_found, answer_of}
 use Rattle.query.specs.declared.answers.Reply.{Reply}
 use Rattle.query.specs.declared.answers.Reply.TheVariants as R
 
@@ -40,7 +39,7 @@ of_kind lists (Err r) = true
 -- The answer, on any words, of a query that wants this: by the pass, with question 13, or by the search.
 unfoldable pub raw_wanted : Tables → Wanted → List ℕ → Answer
 raw_wanted t (W.Listed R) listing = pass_answer (pass_of t.samples t.octants R) listing
-raw_wanted t (W.Nearest c r) listing = best_answer (r * r) (search_all t.samples t.octants c r).best listing
+raw_wanted t (W.Nearest p r) listing = answer_of (best_found t.samples t.octants p r) listing
 
 -- Questions 1 and 9, and then that: the answer of a query on any words at all.
 unfoldable pub raw_answer : Tables → Query → List ℕ → Answer
@@ -56,8 +55,8 @@ pub record Bounds (listing : List ℕ) (t : Tables) (a : Answer) : Type 0 where
   -- nor visited in the pass, measured or taken whole, whatever it looks for
   pub visited : (R : Region) → (pass_of t.samples t.octants R).after.visited ≤ sample_budget current t.samples
   -- no more samples visited in the search, and no more octants entered
-  pub searched : (c : Colour) (r : ℕ) → (search_all t.samples t.octants c r).visited ≤ sample_budget current t.samples
-  pub reached : (c : Colour) (r : ℕ) → (search_all t.samples t.octants c r).entered ≤ octant_limit current t.octants
+  pub searched : (p : Probe) (r : ℕ) → (search_best t.samples t.octants p r).visited ≤ sample_budget current t.samples
+  pub reached : (p : Probe) (r : ℕ) → (search_best t.samples t.octants p r).entered ≤ octant_limit current t.octants
   -- a listing that long is never too short
   pub room : sample_budget current t.samples ≤ length listing → a.number ≡ 13 → ⊥
 

@@ -5,7 +5,7 @@ ghost use Rattle.model.specs.Meets.{lists};
 ghost use Rattle.query.specs.Answers.{reply_answer, of_kind, Bounds, AskMeets};
 
 use crate::answers::{Reply, of_best, of_listed};
-use colour::panel::Wanted;
+use colour::panel::{Wanted, sphere_of};
 use colour::refusal::Refusal;
 use colour::{PanelColour, Query};
 use listing::list::list;
@@ -31,7 +31,7 @@ pub fn ask(
     let wanted = Wanted::try_from(query)?;
     match wanted {
         Wanted::Listed(region) => of_listed(list(&tables, region, listing)),
-        Wanted::Nearest(centre, radius) => Ok(of_best(nearest_code(&tables, centre, radius))),
+        Wanted::Nearest(p, radius) => Ok(of_best(nearest_code(&tables, p, radius))),
     }
 }
 
@@ -69,7 +69,8 @@ pub fn boxed(
     ask(samples, octants, Query::Box(low, high), listing)
 }
 
-// Nearest: an exported call. It uses no listing, so it promises its answer with any; the word that it lends the entry stays as it is.
+// Nearest: an exported call. It uses no listing, so it promises its answer with any. It asks its questions itself: to build a query only to take it
+// apart again costs a good part of a search of few samples.
 pub fn nearest(
     samples: &[u32],
     octants: &[u32],
@@ -81,6 +82,10 @@ pub fn nearest(
     ensures bounds { (listing : List ℕ) → Bounds listing (tables_read samples octants) (reply_answer result listing) }
     ensures kind { of_kind false result ≡ true }
 {
-    let mut word = [0u32; 1];
-    ask(samples, octants, Query::Nearest(centre, radius), &mut word)
+    if !long_enough(samples.len(), octants.len()) {
+        return Err(Refusal::TooShort);
+    }
+    let tables = Tables { samples, octants };
+    let (p, r) = sphere_of(centre, radius)?;
+    Ok(of_best(nearest_code(&tables, p, r)))
 }

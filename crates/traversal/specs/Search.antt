@@ -57,7 +57,7 @@ reaches K limit row d s = (ltb 0 row && ltb row limit) && (ltb s.entered limit &
 unfoldable pub child_search : {S : Type 0} → Store S → List ℕ → Probe → (ℕ → Colour → Searching S → Searching S) → ℕ → ℕ → Colour → ℕ
     → Searching S → Searching S
 child_search K os p below s row low k u =
-    elim (reaches K (octant_limit current os) (child_at os row k) (distance p.centre (closest p.centre s (child_low s k low))) u) [
+    elim (reaches K (octant_limit current os) (child_at os row k) (distance p (closest p.centre s (child_low s k low))) u) [
       | true ↦ below (child_at os row k) (child_low s k low) u
       | false ↦ u
     ]

@@ -6,6 +6,7 @@ use native.Mathlib.Omega.{arith}
 use lib.Ieee.{Float}
 use Rattle.std.specs.Prelude.{Result, Ok, Err}
 use Rattle.colour.specs.Channels.{Colour, PanelColour}
+use Rattle.colour.specs.declared.Probe.{Probe}
 use Rattle.colour.specs.declared.Query.{Query}
 use Rattle.colour.specs.declared.Query.TheVariants as Q
 use Rattle.colour.specs.declared.Region.TheVariants as R
@@ -14,6 +15,7 @@ use Rattle.colour.specs.declared.panel.Wanted.TheVariants as W
 use Rattle.colour.specs.declared.refusal.Refusal.{Refusal}
 use Rattle.colour.specs.declared.refusal.Refusal.TheVariants.{OutOfRange}
 use Rattle.colour.specs.Panel.{panel_good, radius_good, codes_of, code_of, channel_if, codes_if}
+use Rattle.colour.specs.Probe.{probe}
 use Rattle.colour.specs.Question.{first_no}
 use Rattle.colour.specs.Query.{ordered, query_good, query_questions, in_codes, asked_of, sphere_if}
 use Rattle.colour.specs.Refusal.{answer_number}
@@ -55,7 +57,7 @@ module _ (p : PanelColour) (v : Float) where
   unfolding sphere_if
   no_radius r e = let no = code_refused (radius_good v) v r e in rw (no.0, no.1, and-false (panel_good p))
 
-  pub sphere_yes : (k : Colour) (n : ℕ) → codes_if (panel_good p) p ≡ Ok k → channel_if (radius_good v) v ≡ Ok n → Ok (k, n) ≡ sphere_if good p v
+  pub sphere_yes : (k : Colour) (n : ℕ) → codes_if (panel_good p) p ≡ Ok k → channel_if (radius_good v) v ≡ Ok n → Ok (probe k, n) ≡ sphere_if good p v
   unfolding sphere_if
   sphere_yes k n d e =
       let x = codes_told (panel_good p) p k d in
@@ -63,9 +65,9 @@ module _ (p : PanelColour) (v : Float) where
       rw (x.0, y.0, x.1, y.1)
 
 -- What the sphere tells.
-sphere_told : (b : Bool) (p : PanelColour) (v : Float) (k : Colour) (n : ℕ) → sphere_if b p v ≡ Ok (k, n) → (b ≡ true) × (codes_of p ≡ k) × (code_of v ≡ n)
+sphere_told : (b : Bool) (p : PanelColour) (v : Float) (k : Probe) (n : ℕ) → sphere_if b p v ≡ Ok (k, n) → (b ≡ true) × (probe (codes_of p) ≡ k) × (code_of v ≡ n)
 unfolding sphere_if
-sphere_told true p v k n e = let h : (codes_of p, code_of v) ≡ (k, n) = cc in (refl, ap (λ (q : Colour × ℕ). q.0) h, ap (λ (q : Colour × ℕ). q.1) h)
+sphere_told true p v k n e = let h : (probe (codes_of p), code_of v) ≡ (k, n) = cc in (refl, ap (λ (q : Probe × ℕ). q.0) h, ap (λ (q : Probe × ℕ). q.1) h)
 sphere_told false p v k n e = let z : ◌≡◌ {A = ℕ} 0 1 = cc in absurd (omega arith)
 
 sphere_refused : (b : Bool) (p : PanelColour) (v : Float) (r : Refusal) → sphere_if b p v ≡ Err r → (b ≡ false) × (r ≡ OutOfRange)
@@ -75,8 +77,8 @@ sphere_refused false p v r e = (refl, cc)
 
 -- A query that asks by a centre and a radius: a ball or a nearest query.
 module _ (q : Query) (p : PanelColour) (v : Float) (by : query_good q ≡ (panel_good p && radius_good v)) where
-  pub sphere_asked : (want : Colour → ℕ → Wanted) → in_codes q ≡ want (codes_of p) (code_of v)
-      → (k : Colour) (n : ℕ) → sphere_if (panel_good p && radius_good v) p v ≡ Ok (k, n) → asked_of q ≡ Ok (want k n)
+  pub sphere_asked : (want : Probe → ℕ → Wanted) → in_codes q ≡ want (probe (codes_of p)) (code_of v)
+      → (k : Probe) (n : ℕ) → sphere_if (panel_good p && radius_good v) p v ≡ Ok (k, n) → asked_of q ≡ Ok (want k n)
   sphere_asked want wants k n e =
       let t = sphere_told (panel_good p && radius_good v) p v k n e in
       asked_yes q (by ∙ t.0) ∙ ap Ok wants ∙ rw (t.1, t.2)

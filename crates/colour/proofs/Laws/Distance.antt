@@ -9,7 +9,9 @@ use mir.Val.{to_z, of_z}
 use lib.IntN.{ℤ, pos, negsuc, ◌-ℤ◌, ◌*ℤ◌, nat_abs, pos-*ℤ-pos, negsuc-*ℤ-negsuc}
 use Rattle.std.proofs.lemmas.Int.{ints, to_z-of_z}
 use Rattle.colour.specs.Channels.{Colour}
+use Rattle.colour.specs.declared.Probe.{Probe}
 use Rattle.colour.specs.Colour.{Channel, Red, Green, Blue, code_in, colour_by, sum_of, codes_fit, black, greatest_distance, apart, distance}
+use Rattle.colour.specs.Probe.{probe}
 use Rattle.colour.proofs.Laws.Channels.{sum_grows, sum_term, sum_same, fit_codes}
 
 -- A square grows with its root.
@@ -17,26 +19,26 @@ pub square_most : {x m : ℕ} → x ≤ m → x * x ≤ m * m
 square_most h = mul-le-mul h h
 
 -- d² grows with each of the three code differences.
-pub distance_grows : (a b c d : Colour)
-    → ((h : Channel) → apart (code_in h a) (code_in h b) ≤ apart (code_in h c) (code_in h d)) → distance a b ≤ distance c d
+pub distance_grows : (p : Probe) (x : Colour) (q : Probe) (y : Colour)
+    → ((h : Channel) → apart (code_in h p.centre) (code_in h x) ≤ apart (code_in h q.centre) (code_in h y)) → distance p x ≤ distance q y
 unfolding distance
-distance_grows a b c d e = sum_grows _ _ (λ h. square_most (e h))
+distance_grows p x q y e = sum_grows _ _ (λ h. square_most (e h))
 
 -- No channel's squared difference is more than d².
-pub distance_channel : (a b : Colour) (h : Channel) → apart (code_in h a) (code_in h b) * apart (code_in h a) (code_in h b) ≤ distance a b
+pub distance_channel : (p : Probe) (x : Colour) (h : Channel) → apart (code_in h p.centre) (code_in h x) * apart (code_in h p.centre) (code_in h x) ≤ distance p x
 unfolding distance
-distance_channel a b h = sum_term (λ g. apart (code_in g a) (code_in g b) * apart (code_in g a) (code_in g b)) h
+distance_channel p x h = sum_term (λ g. apart (code_in g p.centre) (code_in g x) * apart (code_in g p.centre) (code_in g x)) h
 
 -- d² is symmetric.
-pub distance_symmetric : (a b : Colour) → distance a b ≡ distance b a
+pub distance_symmetric : (a b : Colour) → distance (probe a) b ≡ distance (probe b) a
 unfolding distance apart
 distance_symmetric a b =
     sum_same _ _ (λ h. ap (λ (n : ℕ). n * n) (add_comm (code_in h a - code_in h b) (code_in h b - code_in h a)))
 
 -- A colour is at the distance 0 from itself.
-pub distance_self : (a : Colour) → distance a a ≡ 0
+pub distance_self : (p : Probe) → distance p p.centre ≡ 0
 unfolding distance apart sum_of
-distance_self a = sum_same _ (λ h. 0) (λ h. ap (λ (n : ℕ). n * n) (apart_self (code_in h a)))
+distance_self p = sum_same _ (λ h. 0) (λ h. ap (λ (n : ℕ). n * n) (apart_self (code_in h p.centre)))
   where
     apart_self : (x : ℕ) → apart x x ≡ 0
     apart_self x = omega arith
@@ -46,15 +48,15 @@ pub squares_most : {x y z : ℕ} → (x ≤ 65535) × ((y ≤ 65535) × (z ≤ 6
 squares_most h = omega (arith, square_most h.0, square_most h.1.0, square_most h.1.1)
 
 -- "d² reaches 12,884,508,675": it is no more for colours in range.
-pub distance_bound : (a b : Colour) → codes_fit a ≡ true → codes_fit b ≡ true → distance a b ≤ greatest_distance
+pub distance_bound : (p : Probe) (x : Colour) → codes_fit p.centre ≡ true → codes_fit x ≡ true → distance p x ≤ greatest_distance
 unfolding distance apart sum_of
-distance_bound a b fa fb = squares_most (gap Red, (gap Green, gap Blue))
+distance_bound p x fp fx = squares_most (gap Red, (gap Green, gap Blue))
   where
-    gap : (h : Channel) → apart (code_in h a) (code_in h b) ≤ 65535
-    gap h = omega (arith, (fit_codes a).0 fa h, (fit_codes b).0 fb h)
+    gap : (h : Channel) → apart (code_in h p.centre) (code_in h x) ≤ 65535
+    gap h = omega (arith, (fit_codes p.centre).0 fp h, (fit_codes x).0 fx h)
 
 -- It does reach that, from black to white.
-pub distance_reached : distance black (colour_by (λ h. 65535)) ≡ greatest_distance
+pub distance_reached : distance (probe black) (colour_by (λ h. 65535)) ≡ greatest_distance
 unfolding distance apart sum_of black colour_by code_in
 distance_reached = refl
 

@@ -8,6 +8,7 @@ use native.Mathlib.Omega.{arith}
 use lib.Dec.{leb}
 use borrow.Author.Tests.{ltb-true, leb-true, leb-false, lt-ltb, le-ltb, le-leb}
 use Rattle.colour.specs.Channels.{Colour}
+use Rattle.colour.specs.declared.Probe.{Probe}
 use Rattle.colour.specs.declared.Region.{Region}
 use Rattle.colour.specs.declared.Region.TheVariants.{Ball, Box}
 use Rattle.colour.specs.Colour.{Channel, code_in, colour_by, each, apart, distance}
@@ -52,25 +53,25 @@ farthest_code_lem s low x p = go (leb (apart x low) (apart x (last_code s low)))
     go true e = rw (e, farthest_code) (record { among = omega arith; extreme = λ y i. (ends x low (last_code s low) y i.least (omega arith)).0 (leb-true _ _ e) })
     go false e = rw (e, farthest_code) (record { among = omega arith; extreme = λ y i. (ends x low (last_code s low) y i.least (omega arith)).1 (leb-false _ _ e) })
 
--- "Its closest colour": it is the cube's, and no colour of the cube is closer to c.
-pub closest_colour : (c : Colour) (s : ℕ) (low : Colour) → 1 ≤ s
-    → (cube_holds s low (closest c s low) ≡ true) × ((x : Colour) → cube_holds s low x ≡ true → distance c (closest c s low) ≤ distance c x)
+-- "Its closest colour": it is the cube's, and no colour of the cube is closer.
+pub closest_colour : (p : Probe) (s : ℕ) (low : Colour) → 1 ≤ s
+    → (cube_holds s low (closest p.centre s low) ≡ true) × ((x : Colour) → cube_holds s low x ≡ true → distance p (closest p.centre s low) ≤ distance p x)
 unfolding closest
-closest_colour c s low p =
-    ((cube_among s low _).1 (λ h. (law h).among), λ x i. distance_grows c _ c x (λ h. (law h).extreme (code_in h x) ((cube_among s low x).0 i h)))
+closest_colour p s low few =
+    ((cube_among s low _).1 (λ h. (law h).among), λ x i. distance_grows p _ p x (λ h. (law h).extreme (code_in h x) ((cube_among s low x).0 i h)))
   where
-    law : (h : Channel) → Closest s (code_in h low) (code_in h c) (code_in h (closest c s low))
-    law h = rw code_by (closest_code_lem s (code_in h low) (code_in h c) p)
+    law : (h : Channel) → Closest s (code_in h low) (code_in h p.centre) (code_in h (closest p.centre s low))
+    law h = rw code_by (closest_code_lem s (code_in h low) (code_in h p.centre) few)
 
--- "Its farthest": it is the cube's, and no colour of the cube is farther from c.
-pub farthest_colour : (c : Colour) (s : ℕ) (low : Colour) → 1 ≤ s
-    → (cube_holds s low (farthest c s low) ≡ true) × ((x : Colour) → cube_holds s low x ≡ true → distance c x ≤ distance c (farthest c s low))
+-- "Its farthest": it is the cube's, and no colour of the cube is farther.
+pub farthest_colour : (p : Probe) (s : ℕ) (low : Colour) → 1 ≤ s
+    → (cube_holds s low (farthest p.centre s low) ≡ true) × ((x : Colour) → cube_holds s low x ≡ true → distance p x ≤ distance p (farthest p.centre s low))
 unfolding farthest
-farthest_colour c s low p =
-    ((cube_among s low _).1 (λ h. (law h).among), λ x i. distance_grows c x c _ (λ h. (law h).extreme (code_in h x) ((cube_among s low x).0 i h)))
+farthest_colour p s low few =
+    ((cube_among s low _).1 (λ h. (law h).among), λ x i. distance_grows p x p _ (λ h. (law h).extreme (code_in h x) ((cube_among s low x).0 i h)))
   where
-    law : (h : Channel) → Farthest s (code_in h low) (code_in h c) (code_in h (farthest c s low))
-    law h = rw code_by (farthest_code_lem s (code_in h low) (code_in h c) p)
+    law : (h : Channel) → Farthest s (code_in h low) (code_in h p.centre) (code_in h (farthest p.centre s low))
+    law h = rw code_by (farthest_code_lem s (code_in h low) (code_in h p.centre) few)
 
 -- The two ends of a stretch of s codes lie s - 1 apart.
 span : (s low x : ℕ) → s ≤ apart x low + apart x (low + s - 1) + 1
@@ -84,12 +85,12 @@ farthest_half s low x p =
     omega (arith, span s low x, f low (record { least = omega arith; below = omega arith }), f (low + s - 1) (record { least = omega arith; below = omega arith }))
 
 -- So an octant is not inside a ball of a radius up to half its side.
-pub half_outside : (c : Colour) (r s : ℕ) (low : Colour) → 1 ≤ s → r ≤ s / 2 → inside (Ball c r) s low ≡ false
+pub half_outside : (p : Probe) (r s : ℕ) (low : Colour) → 1 ≤ s → r ≤ s / 2 → inside (Ball p r) s low ≡ false
 unfolding inside farthest
-half_outside c r s low p h = le-ltb _ _ (le_trans (square_most gap) (distance_channel c (farthest c s low) Channel.Red))
+half_outside p r s low few h = le-ltb _ _ (le_trans (square_most gap) (distance_channel p (farthest p.centre s low) Channel.Red))
   where
-    gap : r ≤ apart (code_in Channel.Red c) (code_in Channel.Red (farthest c s low))
-    gap = rw code_by (omega (arith, farthest_half s (code_in Channel.Red low) (code_in Channel.Red c) p))
+    gap : r ≤ apart (code_in Channel.Red p.centre) (code_in Channel.Red (farthest p.centre s low))
+    gap = rw code_by (omega (arith, farthest_half s (code_in Channel.Red low) (code_in Channel.Red p.centre) few))
 
 -- Two orders tested in each channel.
 orders : (a b c d : Channel → ℕ) → (each (λ h. leb (a h) (b h) && leb (c h) (d h)) ≡ true) ↔ ((h : Channel) → (a h ≤ b h) × (c h ≤ d h))
@@ -121,29 +122,29 @@ module _ (lo hi : Colour) where
 
 -- "A box needs low ≤ high in each channel"; a ball needs nothing.
 unfoldable pub proper : Region → Bool
-proper (Ball c r) = true
+proper (Ball p r) = true
 proper (Box lo hi) = ordered lo hi
 
 -- An octant that holds a colour of the ball or box overlaps it.
 pub some_overlaps : (g : Region) (s : ℕ) (low : Colour) → 1 ≤ s → (x : Colour) → cube_holds s low x ≡ true → holds g x ≡ true → overlaps g s low ≡ true
 unfolding overlaps holds last_code
-some_overlaps (Ball c r) s low p x i e = lt-ltb _ _ (lt_of_le_of_lt ((closest_colour c s low p).1 x i) (ltb-true _ _ e))
-some_overlaps (Box lo hi) s low p x i e = (box_overlaps lo hi s low).1 (λ h. omega (arith, (cube_among s low x).0 i h, (box_holds lo hi x).0 e h))
+some_overlaps (Ball p r) s low few x i e = lt-ltb _ _ (lt_of_le_of_lt ((closest_colour p s low few).1 x i) (ltb-true _ _ e))
+some_overlaps (Box lo hi) s low few x i e = (box_overlaps lo hi s low).1 (λ h. omega (arith, (cube_among s low x).0 i h, (box_holds lo hi x).0 e h))
 
 -- "An octant overlaps a ball when its closest colour to the centre has d² < r². For a box: some colour in it." In both, it overlaps exactly
 -- when some colour lies in the octant and in the ball or box.
 pub overlaps_some : (g : Region) (s : ℕ) (low : Colour) → 1 ≤ s → proper g ≡ true
     → (overlaps g s low ≡ true) ↔ ((x : Colour) × (cube_holds s low x ≡ true) × (holds g x ≡ true))
 unfolding overlaps holds proper last_code
-overlaps_some (Ball c r) s low p o =
-    (λ e. (closest c s low, (closest_colour c s low p).0, e), λ e. some_overlaps (Ball c r) s low p e.0 e.1 e.2)
-overlaps_some (Box lo hi) s low p o = (
+overlaps_some (Ball p r) s low few o =
+    (λ e. (closest p.centre s low, (closest_colour p s low few).0, e), λ e. some_overlaps (Ball p r) s low few e.0 e.1 e.2)
+overlaps_some (Box lo hi) s low few o = (
   λ e. let x : Colour = colour_by (λ h. max (code_in h lo) (code_in h low)) in (
     x,
     (cube_among s low x).1 (λ h. rw code_by (omega (arith, (box_overlaps lo hi s low).0 e h))),
     (box_holds lo hi x).1 (λ h. rw code_by (omega (arith, (box_overlaps lo hi s low).0 e h, box_ordered lo hi o h))),
   ),
-  λ e. some_overlaps (Box lo hi) s low p e.0 e.1 e.2,
+  λ e. some_overlaps (Box lo hi) s low few e.0 e.1 e.2,
 )
 
 -- So none of the colours of an octant that does not overlap is in the ball or box.
@@ -158,10 +159,10 @@ misses_all g s low p e x i = go (holds g x) refl
 pub inside_all : (g : Region) (s : ℕ) (low : Colour) → 1 ≤ s
     → (inside g s low ≡ true) ↔ ((x : Colour) → cube_holds s low x ≡ true → holds g x ≡ true)
 unfolding inside holds last_code
-inside_all (Ball c r) s low p =
-    let t = farthest_colour c s low p in
-    (λ e x i. lt-ltb _ _ (lt_of_le_of_lt (t.1 x i) (ltb-true _ _ e)), λ e. e (farthest c s low) t.0)
-inside_all (Box lo hi) s low p = (
+inside_all (Ball p r) s low few =
+    let t = farthest_colour p s low few in
+    (λ e x i. lt-ltb _ _ (lt_of_le_of_lt (t.1 x i) (ltb-true _ _ e)), λ e. e (farthest p.centre s low) t.0)
+inside_all (Box lo hi) s low few = (
   λ e x i. (box_holds lo hi x).1 (λ h. omega (arith, (cube_among s low x).0 i h, (box_inside lo hi s low).0 e h)),
   λ e. let last : Colour = colour_by (λ h. last_code s (code_in h low)) in
       let a = (box_holds lo hi low).0 (e low ((cube_among s low low).1 (λ h. omega arith))) in

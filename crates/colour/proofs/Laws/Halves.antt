@@ -8,14 +8,15 @@ use native.Mathlib.Omega.{arith}
 use lib.Dec.{ltb}
 use Rattle.colour.specs.Channels.{Colour}
 use Rattle.colour.specs.declared.Channels.{Channels}
+use Rattle.colour.specs.declared.Probe.{Probe}
 use Rattle.colour.specs.declared.Region.{Region}
 use Rattle.colour.specs.declared.Region.TheVariants.{Ball, Box}
 use Rattle.colour.specs.declared.overlap.Halves.{Halves}
 use Rattle.colour.specs.Colour.{Channel, Red, Green, Blue, code_in, each, sum_of, apart, distance}
 use Rattle.colour.specs.Octant.{bit_weight, children, child_low}
 use Rattle.colour.specs.Region.{closest, overlaps}
-use Rattle.colour.specs.Mask.{bit_if, by_bit, mask_of, overlap_mask}
-use Rattle.colour.specs.Steps.{closest_square, noes, missed, share, limit_of, halves_of, half_at, of_channel, child_sum, child_below, Small}
+use Rattle.colour.specs.Mask.{bit_if, mask_of, overlap_mask}
+use Rattle.colour.specs.Steps.{closest_square, noes, missed, share, limit_of, halves_of, half_at, of_channel, child_sum, child_below}
 use Rattle.colour.proofs.Laws.Channels.{sum_same, code_by}
 use Rattle.colour.proofs.Laws.Octants.{child_code}
 use Rattle.colour.proofs.Laws.Mask.{mask_same}
@@ -36,27 +37,16 @@ each_noes f = go (f Red) (f Green) (f Blue)
     go false false false = refl
 
 -- d² to an octant's closest colour is what its channels add up to.
-pub closest_shares : (c : Colour) (s : ℕ) (low : Colour) → distance c (closest c s low) ≡ sum_of (λ h. closest_square (code_in h c) s (code_in h low))
+pub closest_shares : (p : Probe) (s : ℕ) (low : Colour)
+    → distance p (closest p.centre s low) ≡ sum_of (λ h. closest_square (code_in h p.centre) s (code_in h low))
 unfolding closest_square distance closest
-closest_shares c s low = sum_same _ _ (λ h. ap (λ (n : ℕ). apart (code_in h c) n * apart (code_in h c) n) (code_by _ h))
+closest_shares p s low = sum_same _ _ (λ h. ap (λ (n : ℕ). apart (code_in h p.centre) n * apart (code_in h p.centre) n) (code_by _ h))
 
 -- An octant overlaps a region exactly where its channels add up to less than the region's limit.
 pub overlaps_shares : (R : Region) (s : ℕ) (low : Colour) → overlaps R s low ≡ ltb (sum_of (λ h. share R h s (code_in h low))) (limit_of R)
 unfolding overlaps share limit_of missed
-overlaps_shares (Ball c r) s low = ap (λ (n : ℕ). ltb n (r * r)) (closest_shares c s low)
+overlaps_shares (Ball p r) s low = ap (λ (n : ℕ). ltb n (r * r)) (closest_shares p s low)
 overlaps_shares (Box a b) s low = each_noes _
-
--- The half of a bit is picked by it.
-pub half_by : (v : Halves) (bit : ℕ) → by_bit bit v.lower v.upper ≡ half_at v bit
-unfolding half_at by_bit
-half_by v zero = refl
-half_by v (suc b) = refl
-
--- It is small where both are.
-pub half_small : (v : Halves) → Small v → (bit : ℕ) → by_bit bit v.lower v.upper ≤ 4294836225
-unfolding by_bit
-half_small v s zero = s.lower
-half_small v s (suc b) = s.upper
 
 -- The half of a bit starts at low, or s above it.
 half_at_lem : (f : ℕ → ℕ → ℕ) (s low n : ℕ) → half_at (halves_of f s low) (n % 2) ≡ f s (low + n % 2 * s)

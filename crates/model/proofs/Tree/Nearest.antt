@@ -7,39 +7,39 @@ use mathlib.Core.Path.{◌≡◌, refl, ap}
 use lib.Dec.{ltb}
 use native.Mathlib.Omega.{arith}
 use borrow.Author.Tests.{ltb-true, ltb-false}
-use Rattle.colour.specs.Channels.{Colour}
+use Rattle.colour.specs.declared.Probe.{Probe}
 use Rattle.colour.specs.Colour.{distance}
 use Rattle.model.specs.SampleSet.{Placed}
 use Rattle.model.specs.Queries.{or_else, nearest_in}
 
--- How far a sample is from c.
-abbrev far : Colour → Placed → ℕ
-far c x = distance c x.sample.colour
+-- How far a sample is from a probe.
+abbrev far : Probe → Placed → ℕ
+far p x = distance p x.sample.colour
 
 -- Every sample of a list is at n or farther.
-unfoldable pub AtLeast : Colour → ℕ → List Placed → Type 0
-AtLeast c n [] = Unit {0}
-AtLeast c n (x ∷ rest) = (n ≤ distance c x.sample.colour) × AtLeast c n rest
+unfoldable pub AtLeast : Probe → ℕ → List Placed → Type 0
+AtLeast p n [] = Unit {0}
+AtLeast p n (x ∷ rest) = (n ≤ distance p x.sample.colour) × AtLeast p n rest
 
 -- x stands in xs below the limit: those before it are farther, those after it no closer.
-pub record Least (c : Colour) (limit : ℕ) (xs : List Placed) (x : Placed) : Type 0 where
+pub record Least (p : Probe) (limit : ℕ) (xs : List Placed) (x : Placed) : Type 0 where
   pub before : List Placed
   pub after : List Placed
   pub stands : xs ≡ before ++ (x ∷ after)
-  pub below : distance c x.sample.colour < limit
-  pub earlier : AtLeast c (suc (distance c x.sample.colour)) before
-  pub later : AtLeast c (distance c x.sample.colour) after
+  pub below : distance p x.sample.colour < limit
+  pub earlier : AtLeast p (suc (distance p x.sample.colour)) before
+  pub later : AtLeast p (distance p x.sample.colour) after
 
 -- What an answer says: none where every sample is at the limit or farther.
-unfoldable pub Says : Colour → ℕ → List Placed → Option Placed → Type 0
-Says c limit xs none = AtLeast c limit xs
-Says c limit xs (some x) = Least c limit xs x
+unfoldable pub Says : Probe → ℕ → List Placed → Option Placed → Type 0
+Says p limit xs none = AtLeast p limit xs
+Says p limit xs (some x) = Least p limit xs x
 
 -- One more before it: it is kept out by the limit, or the best so far.
-further : (c : Colour) (limit : ℕ) (x : Placed) (rest : List Placed) (o : Option Placed) → limit ≤ far c x → Says c limit rest o → Says c limit (x ∷ rest) o
+further : (p : Probe) (limit : ℕ) (x : Placed) (rest : List Placed) (o : Option Placed) → limit ≤ far p x → Says p limit rest o → Says p limit (x ∷ rest) o
 unfolding Says AtLeast
-further c limit x rest none h a = (h, a)
-further c limit x rest (some y) h a =
+further p limit x rest none h a = (h, a)
+further p limit x rest (some y) h a =
     record {
       before = x ∷ a.before;
       after = a.after;
@@ -49,11 +49,11 @@ further c limit x rest (some y) h a =
       later = a.later;
     }
 
-closer : (c : Colour) (limit : ℕ) (x : Placed) (rest : List Placed) (o : Option Placed) → far c x < limit → Says c (far c x) rest o
-    → Says c limit (x ∷ rest) (some (or_else o x))
+closer : (p : Probe) (limit : ℕ) (x : Placed) (rest : List Placed) (o : Option Placed) → far p x < limit → Says p (far p x) rest o
+    → Says p limit (x ∷ rest) (some (or_else o x))
 unfolding Says AtLeast or_else
-closer c limit x rest none h a = record { before = []; after = rest; stands = refl; below = h; earlier = tt; later = a }
-closer c limit x rest (some y) h a =
+closer p limit x rest none h a = record { before = []; after = rest; stands = refl; below = h; earlier = tt; later = a }
+closer p limit x rest (some y) h a =
     record {
       before = x ∷ a.before;
       after = a.after;
@@ -63,12 +63,12 @@ closer c limit x rest (some y) h a =
       later = a.later;
     }
 
-pub nearest_says : (c : Colour) (limit : ℕ) (xs : List Placed) → Says c limit xs (nearest_in c limit xs)
+pub nearest_says : (p : Probe) (limit : ℕ) (xs : List Placed) → Says p limit xs (nearest_in p limit xs)
 unfolding nearest_in Says AtLeast
-nearest_says c limit [] = tt
-nearest_says c limit (x ∷ rest) = go (ltb (far c x) limit) refl (nearest_says c limit rest) (nearest_says c (far c x) rest)
+nearest_says p limit [] = tt
+nearest_says p limit (x ∷ rest) = go (ltb (far p x) limit) refl (nearest_says p limit rest) (nearest_says p (far p x) rest)
   where
-    go : (r : Bool) → ltb (far c x) limit ≡ r → Says c limit rest (nearest_in c limit rest) → Says c (far c x) rest (nearest_in c (far c x) rest)
-        → Says c limit (x ∷ rest) (nearest_in c limit (x ∷ rest))
-    go true e h a = rw (e, nearest_in) (closer c limit x rest (nearest_in c (far c x) rest) (ltb-true (far c x) limit e) a)
-    go false e h a = rw (e, nearest_in) (further c limit x rest (nearest_in c limit rest) (ltb-false (far c x) limit e) h)
+    go : (r : Bool) → ltb (far p x) limit ≡ r → Says p limit rest (nearest_in p limit rest) → Says p (far p x) rest (nearest_in p (far p x) rest)
+        → Says p limit (x ∷ rest) (nearest_in p limit (x ∷ rest))
+    go true e h a = rw (e, nearest_in) (closer p limit x rest (nearest_in p (far p x) rest) (ltb-true (far p x) limit e) a)
+    go false e h a = rw (e, nearest_in) (further p limit x rest (nearest_in p limit rest) (ltb-false (far p x) limit e) h)

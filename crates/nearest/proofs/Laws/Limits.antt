@@ -1,17 +1,17 @@
--- What is found, by the limit that a search began with.
-use Prim.Native.Nat.{ℕ}
-use mathlib.Core.Bool.{Bool, true, false}
+-- What is found is closer than the limit that the search began with.
+use Prim.Native.Nat.{ℕ, ◌≤◌, ◌<◌}
 use mathlib.Core.List.{List}
-use mathlib.Core.Path.{◌≡◌, refl}
-use lib.Dec.{ltb}
+use mathlib.Core.Path.{◌≡◌, sym, ap, ◌∙◌}
+use borrow.Author.Tests.{lt-ltb, le-ltb}
+use Rattle.std.specs.Prelude.{Some, None}
 use Rattle.nearest.specs.declared.best.Best.{Best}
-use Rattle.nearest.specs.Best.{best_answer, found_if, answer_of}
+use Rattle.nearest.specs.Best.{Kept, best_of, found_of}
 
--- The answer by what is found is that by the limit.
-pub answer_is : (limit : ℕ) (best : Best) (left : List ℕ) → answer_of (found_if limit best) left ≡ best_answer limit best left
-unfolding found_if answer_of best_answer
-answer_is limit best left = go (ltb best.distance limit) refl
-  where
-    go : (t : Bool) → ltb best.distance limit ≡ t → answer_of (found_if limit best) left ≡ best_answer limit best left
-    go true e = rw (e, found_if, best_answer)
-    go false e = rw (e, found_if, best_answer)
+module _ (ws : List ℕ) (limit : ℕ) (k : Kept) where
+  pub found_near : {best : Best} → k.distance < limit → best ≡ best_of ws k → Some best ≡ found_of ws limit k
+  unfolding found_of
+  found_near h e = ap Some e ∙ sym (rw (lt-ltb k.distance limit h, found_of))
+
+  pub found_none : limit ≤ k.distance → None ≡ found_of ws limit k
+  unfolding found_of
+  found_none h = sym (rw (le-ltb k.distance limit h, found_of))

@@ -1,13 +1,14 @@
 -- What is answered by a pass or a search is what document 01 says of the query: on sound tables the machine's answer, on any others what question 2 leaves.
-use Prim.Native.Nat.{ℕ, ◌*◌, ◌≤◌}
+use Prim.Native.Nat.{ℕ, ◌≤◌}
 use mathlib.Core.Bool.{Bool, true, false}
 use mathlib.Core.List.{List, [], ◌++◌}
 use mathlib.Core.Path.{◌≡◌, refl, sym, ap, ◌∙◌, subst}
 use native.Mathlib.Omega.{arith}
 use borrow.Author.Tests.{leb-true, leb-false}
-use lib.Dec.{leb, ltb}
+use lib.Dec.{leb}
 use lib.ListN.{length, drop, length-append, length-drop}
 use lib.Seq.{drop-append_seam}
+use Rattle.std.specs.Prelude.{Option, Some, None}
 use Rattle.colour.specs.declared.Query.{Query}
 use Rattle.colour.specs.declared.Query.TheVariants as Q
 use Rattle.colour.specs.declared.Region.{Region}
@@ -30,10 +31,8 @@ use Rattle.listing.specs.Answers.{counts_of, pass_answer}
 use Rattle.listing.proofs.Laws.Pass.Bounds.{pass_bounded}
 use Rattle.listing.proofs.Laws.Answers.Answered.{pass_listing, pass_fits, pass_short, tags_budget}
 use Rattle.nearest.specs.declared.best.Best.{Best}
-use Rattle.nearest.specs.Best.{best_answer}
-use Rattle.nearest.specs.Search.{search_all}
-use Rattle.nearest.proofs.Laws.Bounds.{search_all_within}
-use Rattle.nearest.proofs.Laws.Sound.Found.{search_nearest}
+use Rattle.nearest.specs.Best.{best_found, answer_of}
+use Rattle.nearest.proofs.Laws.Found.{search_nearest, search_best_within}
 use Rattle.query.specs.Answers.{raw_wanted, raw_answer, Bounds, AskMeets}
 use Rattle.query.proofs.Laws.Machine.{query_same, query_refused, query_wanted}
 
@@ -51,8 +50,8 @@ module _ (t : Tables) (l : List ℕ) where
         listed = n;
         measured = m;
         visited = λ R. (pass_bounded t.samples t.octants R).limits.visited;
-        searched = λ c r. (search_all_within t.samples t.octants c r).visited;
-        reached = λ c r. (search_all_within t.samples t.octants c r).entered;
+        searched = λ p r. (search_best_within t.samples t.octants p r).visited;
+        reached = λ p r. (search_best_within t.samples t.octants p r).entered;
         room = r;
       }
 
@@ -76,26 +75,23 @@ module _ (t : Tables) (l : List ℕ) where
           rw (pass_short v l (leb-false (length v.tags) (length l) e))
           (refusal_bounds 13 (λ h _. omega (arith, h, leb-false (length v.tags) (length l) e, tags_budget t.samples t.octants R)))
 
-  best_bounds : (limit : ℕ) (b : Best) → Bounds l t (best_answer limit b l)
-  unfolding best_answer nearest_answer
-  best_bounds limit b = go (ltb b.distance limit) refl
-    where
-      go : (f : Bool) → ltb b.distance limit ≡ f → Bounds l t (best_answer limit b l)
-      go true e = rw (e, best_answer) (bounded _ (omega arith) (omega arith) (omega arith) (λ _ z. omega arith))
-      go false e = rw (e, best_answer) (bounded _ (omega arith) (omega arith) (omega arith) (λ _ z. omega arith))
+  best_bounds : (found : Option Best) → Bounds l t (answer_of found l)
+  unfolding answer_of nearest_answer
+  best_bounds (Some best) = bounded _ (omega arith) (omega arith) (omega arith) (λ _ z. omega arith)
+  best_bounds None = bounded _ (omega arith) (omega arith) (omega arith) (λ _ z. omega arith)
 
   -- Of whatever is wanted.
   wanted_bounds : (w : Wanted) → Bounds l t (raw_wanted t w l)
   unfolding raw_wanted
   wanted_bounds (W.Listed R) = pass_bounds R
-  wanted_bounds (W.Nearest c r) = best_bounds (r * r) (search_all t.samples t.octants c r).best
+  wanted_bounds (W.Nearest p r) = best_bounds (best_found t.samples t.octants p r)
 
   -- On sound tables whatever is wanted is answered as the machine answers.
   wanted_follows : (m : Machine) → Shows current m t → (w : Wanted)
       → raw_wanted t w l ≡ unless_refused (wanted_questions m.set w l) l (wanted_answer m.set w l)
   unfolding raw_wanted wanted_questions wanted_answer unless_refused first_no
   wanted_follows m shows (W.Listed R) = pass_listing t m shows R l
-  wanted_follows m shows (W.Nearest c r) = search_nearest t.samples t.octants m shows c r l
+  wanted_follows m shows (W.Nearest p r) = search_nearest t.samples t.octants m shows p r l
 
 -- What question 2 leaves of a query that question 9 accepts.
 module _ (q : Query) (l : List ℕ) (t : Tables) (good : query_good q ≡ true) where
@@ -145,19 +141,16 @@ module _ (q : Query) (l : List ℕ) (t : Tables) (good : query_good q ≡ true) 
           reports = rw is-nearest;
         }
 
-    best_free : (limit : ℕ) (b : Best) → Free q l t (best_answer limit b l) t
-    unfolding best_answer
-    best_free limit b = go (ltb b.distance limit) refl
-      where
-        go : (f : Bool) → ltb b.distance limit ≡ f → Free q l t (best_answer limit b l) t
-        go true e = rw (e, best_answer) (near_free true b.tag b.distance)
-        go false e = rw (e, best_answer) (near_free false 0 0)
+    best_free : (found : Option Best) → Free q l t (answer_of found l) t
+    unfolding answer_of
+    best_free (Some best) = near_free true best.tag best.distance
+    best_free None = near_free false 0 0
 
 wanted_free : (q : Query) (l : List ℕ) (t : Tables) → query_good q ≡ true → Free q l t (raw_wanted t (in_codes q) l) t
 unfolding raw_wanted in_codes lists
 wanted_free (Q.Ball c r) l t g = pass_free (Q.Ball c r) l t g refl _
 wanted_free (Q.Box lo hi) l t g = pass_free (Q.Box lo hi) l t g refl _
-wanted_free (Q.Nearest c r) l t g = best_free (Q.Nearest c r) l t g refl _ _
+wanted_free (Q.Nearest c r) l t g = best_free (Q.Nearest c r) l t g refl _
 
 -- Question 9, answered with no.
 nine_no : (q : Query) → query_good q ≡ false → first_no (query_questions q) ≡ 9

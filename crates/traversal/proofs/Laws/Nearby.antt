@@ -195,9 +195,9 @@ pub sum_fits : {v : Squares} → SmallSquares v → v.red + v.green + v.blue < 2
 sum_fits s = omega arith
 
 -- d² to an octant's closest colour is their sum.
-pub near_sum : (p : Probe) (s : ℕ) (low : Colour) → sum_by (near_of p s low) ≡ distance p.centre (closest p.centre s low)
+pub near_sum : (p : Probe) (s : ℕ) (low : Colour) → sum_by (near_of p s low) ≡ distance p (closest p.centre s low)
 unfolding sum_by near_of
-near_sum p s low = sum_same _ _ (λ h. square_by (λ g. closest_square (code_in g p.centre) s (code_in g low)) h) ∙ sym (closest_shares p.centre s low)
+near_sum p s low = sum_same _ _ (λ h. square_by (λ g. closest_square (code_in g p.centre) s (code_in g low)) h) ∙ sym (closest_shares p s low)
 
 -- At turn 0 nothing is turned.
 pub turned_none : (near far : Squares) → turned_by near far 0 ≡ near

@@ -8,7 +8,6 @@ use Rattle.model.specs.Meets.{lists}
 use Rattle.model.specs.Sound.{long_enough}
 use Rattle.nearest.specs.declared.best.Best.{Best}
 use Rattle.nearest.specs.Best.{answer_of}
-use Rattle.nearest.proofs.Laws.Limits.{answer_is}
 use Rattle.query.specs.Answers.{reply_answer, of_kind, raw_wanted}
 use Rattle.query.proofs.Laws.Asked.{asked_lists, asked_finds, of_kind_lem, refusal_kind, short_named, refused_named, wanted_named, reply_meets}
 use Rattle.query.proofs.ask.ask.Goals as goal
@@ -35,7 +34,7 @@ returns-in-Nearest c =
     let is = sym c.try_from.ensures.1 ∙ c.in_ok-wanted.was ∙ ap Ok c.in-Nearest.is in
     let both = reply_meets _ _ _ _ _ _
     (wanted_named _ _ _ long is
-    (c.of_best.ensures.is l ∙ ap (λ (o : Option Best). answer_of o l) c.nearest.ensures ∙ answer_is _ _ l))
+    (c.of_best.ensures.is l ∙ ap (λ (o : Option Best). answer_of o l) c.nearest.ensures))
     (of_kind_lem (Ok c.of_best.result) (asked_finds _ _ _ is) c.of_best.ensures.kind) in record { meets = both.0; bounds = both.1.0; kind = both.1.1 }
 
 pub returns-in_err-wanted : goal.returns-in_err-wanted

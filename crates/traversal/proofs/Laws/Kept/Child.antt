@@ -62,7 +62,7 @@ module _ {S : Type 0} (K : Store S) (T : Takes K) (ws os : List ℕ) (m : Machin
 
     -- How far the closest colour of child k is.
     abbrev gap : ℕ → ℕ
-    gap k = distance p.centre (closest p.centre (2 ^ j) (kid_low k))
+    gap k = distance p (closest p.centre (2 ^ j) (kid_low k))
 
     abbrev turn : ℕ → Searching S → Searching S
     turn = child_search K os p (search_of K ws os p j) (2 ^ j) at low
@@ -80,8 +80,8 @@ module _ {S : Type 0} (K : Store S) (T : Takes K) (ws os : List ℕ) (m : Machin
     none_closer k l kept e =
         measured_skips K T p kept (child_labels b j at xs k)
         (all_then _ _
-        (λ y w. T.farther kept (gap k) (kid_row k) (distance p.centre y.sample.sample.colour) y.octant e
-        ((closest_colour p.centre (2 ^ j) (kid_low k) (pow_pos j)).1 y.sample.sample.colour w.1) w.0.0) _
+        (λ y w. T.farther kept (gap k) (kid_row k) (distance p y.sample.sample.colour) y.octant e
+        ((closest_colour p (2 ^ j) (kid_low k) (pow_pos j)).1 y.sample.sample.colour w.1) w.0.0) _
         (all_both _ _ _ (labelled_within b j (kid_row k) (kid k))
         (labelled_all (λ x. lies (2 ^ j) (kid_low k) x ≡ true) b j (kid_row k) (kid k) (all_lie ws os m shows (below k l st.stands.reached)))))
 

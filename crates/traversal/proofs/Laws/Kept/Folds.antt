@@ -24,11 +24,11 @@ pub record Takes {S : Type 0} (K : Store S) : Type 0 where
 module _ {S : Type 0} (K : Store S) (T : Takes K) (p : Probe) where
   -- How far a label's sample is.
   abbrev far : Label → ℕ
-  far l = distance p.centre l.sample.sample.colour
+  far l = distance p l.sample.sample.colour
 
   -- Once a label's sample is taken, and a list of them.
   abbrev taken_by : S → Label → S
-  taken_by s l = T.take s (distance p.centre l.sample.sample.colour) l.octant l.sample.row
+  taken_by s l = T.take s (distance p l.sample.sample.colour) l.octant l.sample.row
 
   unfoldable pub measured : S → List Label → S
   measured s [] = s
@@ -41,7 +41,7 @@ module _ {S : Type 0} (K : Store S) (T : Takes K) (p : Probe) where
   measured_append s (l ∷ A) B = measured_append (taken_by s l) A B
 
   -- Samples of which none comes before what is kept leave it.
-  pub measured_skips : (s : S) (A : List Label) → All (λ l. K.closer s (distance p.centre l.sample.sample.colour) l.octant ≡ false) A → measured s A ≡ s
+  pub measured_skips : (s : S) (A : List Label) → All (λ l. K.closer s (distance p l.sample.sample.colour) l.octant ≡ false) A → measured s A ≡ s
   unfolding measured All
   measured_skips s [] h = refl
   measured_skips s (l ∷ A) h = rw (T.no s (far l) l.octant l.sample.row h.0) (measured_skips s A h.1)

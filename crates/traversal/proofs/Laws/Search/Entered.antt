@@ -45,7 +45,7 @@ module _ {S : Type 0} (K : Store S) (os : List ℕ) (p : Probe) (below : ℕ →
     (u : Searching S) where
   -- How far the closest colour of child k is.
   abbrev gap : ℕ
-  gap = distance p.centre (closest p.centre s (child_low s k low))
+  gap = distance p (closest p.centre s (child_low s k low))
 
   -- A child that is not entered leaves the search as it is.
   pub child_barred : reaches K (octant_limit current os) (child_at os row k) gap u ≡ false → child_search K os p below s row low k u ≡ u

@@ -46,7 +46,7 @@ module _ {S : Type 0} (K : Store S) (ws os : List ℕ) (p : Probe) (I : Searchin
       at = child_at os row k
 
       d : ℕ
-      d = distance p.centre (closest p.centre side (child_low side k low))
+      d = distance p (closest p.centre side (child_low side k low))
 
       go : (r : Bool) → reaches K limit at d u ≡ r → I (child_search K os p below side row low k u)
       go true e = rw (e, child_search) (h at (child_low side k low) u (reaches_room K limit at d u e).1 i)

@@ -136,7 +136,7 @@ module _ {S : Type 0} (K : Store S) (ws os : List ℕ) (p : Probe) (row : ℕ) (
   abbrev entered : ℕ → Bool
   entered s =
       reaches K (octant_limit current os) (child_at os row (turn_child p.centre s spot.cube.low m))
-      (distance p.centre (closest p.centre s (child_low s (turn_child p.centre s spot.cube.low m) spot.cube.low))) u
+      (distance p (closest p.centre s (child_low s (turn_child p.centre s spot.cube.low m) spot.cube.low))) u
 
   sized : side_at (suc spot.cube.depth) ≡ 2 ^ j
   sized = half_is spot.cube (side_at (suc spot.cube.depth)) refl

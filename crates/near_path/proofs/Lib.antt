@@ -1,2 +1,0 @@
--- Laws and proofs of nearest by path.
-pub mod Laws

@@ -1,3 +1,0 @@
--- Nearest by path, over any words of the tables.
-pub mod Best
-pub mod Steps

@@ -1,6 +1,0 @@
-// Nearest over the tables, by path. Nothing in the tables is trusted: on any words at all a search ends within what it is lent.
-#![tactic(auto)]
-
-pub mod best;
-mod leaf;
-pub mod visit;

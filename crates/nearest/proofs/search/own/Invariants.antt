@@ -1,9 +1,0 @@
--- `search::own`: what was measured, and what is still to come, are all of the octant's own samples.
-use Rattle.traversal.specs.Own.{own_rows}
-use Rattle.traversal.specs.Rows.{rows_left}
-use Rattle.nearest.proofs.Laws.Steps.Measuring.{Measuring}
-use Rattle.nearest.proofs.search.own.Given as goal
-
-abbrev pub invariant-loop-row : goal.invariant-loop-row
-invariant-loop-row l =
-    Measuring l.tables.samples.now l.centre l.octant (own_rows l.tables.samples.now l.tables.octants.now l.octant l.search.visited) l.initial.best (rows_left l.row-iterator) l.seen l.best
