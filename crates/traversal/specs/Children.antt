@@ -1,4 +1,4 @@
--- The children of an octant, by any words of the octant table. A search by path asks for them here.
+-- The children of an octant, by any words of the octant table. Every traversal asks for them here.
 use Rattle.std.specs.Prelude.{ℕ, List}
 use Rattle.model.specs.Layout.{Child, current}
 use Rattle.words.specs.Rows.{octant_field}

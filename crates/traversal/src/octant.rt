@@ -37,8 +37,8 @@ pub fn ends(tables: &Tables<'_>, whole: bool, depth: u32, row: u32) -> bool
     octant_count(tables.octants, row) <= settings.bucket
 }
 
-// The row of child k, or 0 for none, as the table's word is. (No Option: at each use the row is compared with 0 and with the limit at once.) A search by
-// path asks for children here and nowhere else: rows without child words, as docs/SEARCH-BY-PATH.md means, would change this function alone.
+// The row of child k, or 0 for none, as the table's word is. (No Option: each use compares the row with two numbers at once.) Every traversal asks for
+// children here and nowhere else: rows without child words would change this function, and no traversal.
 #[tactic(auto, unfolding(crate::specs::Children::child_at))]
 pub fn child_at(octants: &[u32], row: u32, k: u32) -> u32
     requires { (row < octant_rows current (length octants.now)) × (k < 8) }
