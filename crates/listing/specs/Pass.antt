@@ -9,9 +9,10 @@ use Rattle.colour.specs.Colour.{black, wrapped}
 use Rattle.colour.specs.Octant.{depths, children, child_low}
 use Rattle.colour.specs.Region.{holds, overlaps, inside}
 use Rattle.model.specs.Lists.{keep}
-use Rattle.model.specs.Layout.{Bucket, Tag, Count, Child, current}
+use Rattle.model.specs.Layout.{Bucket, Tag, Count, current}
 use Rattle.words.specs.Rows.{setting_in, sample_field, sample_in, octant_field, octant_limit}
 use Rattle.traversal.specs.Own.{own_rows, ends_at}
+use Rattle.traversal.specs.Children.{child_at}
 
 -- What a pass has counted: octants entered, samples measured, and all samples visited, measured or taken whole. `next` is the least octant row
 -- that may still be entered.
@@ -53,8 +54,8 @@ unfoldable pub own_samples : List ℕ → List ℕ → Region → Bool → ℕ �
 own_samples ws os R whole row t =
     record { tags = tags_of ws R whole (own_rows ws os row t.visited); after = visiting whole (length (own_rows ws os row t.visited)) t }
 
--- Whether the octant in a row, of side s at low, is entered: it overlaps, its row is past those entered before, and the table has it. (A child word
--- of 0 is never entered: row 0 is passed with the root.)
+-- Whether the octant in a row, of side s at low, is entered: it overlaps, its row is past those entered before, and the table has it. (A child in
+-- row 0, which says that there is none, is never entered: row 0 is passed with the root.)
 unfoldable pub enters : List ℕ → Region → ℕ → Colour → ℕ → Tally → Bool
 enters os R s low row t = overlaps R s low && (leb t.next row && ltb row (octant_limit current os))
 
@@ -71,11 +72,11 @@ unfoldable pub visit_each : (ℕ → Tally → Visit) → ℕ → Tally → Visi
 visit_each f zero t = nothing t
 visit_each f (suc n) t = and_then (visit_each f n t) (f n)
 
--- Child k, of side s, of the octant in a row at low: it is visited where it is entered.
+-- Child k, of side s, of the octant in a row at low: it is visited if it is entered.
 unfoldable pub child_visit : List ℕ → Region → (ℕ → Colour → Tally → Visit) → ℕ → ℕ → Colour → ℕ → Tally → Visit
 child_visit os R below s row low k t =
-    elim (enters os R s (child_low s k low) (octant_field current os row (Child k)) t) [
-      | true ↦ below (octant_field current os row (Child k)) (child_low s k low) t
+    elim (enters os R s (child_low s k low) (child_at os row k) t) [
+      | true ↦ below (child_at os row k) (child_low s k low) t
       | false ↦ nothing t
     ]
 

@@ -13,8 +13,8 @@ use colour::octant::{child, parent_of, root};
 use colour::overlap::{inside, overlapping, overlaps};
 use colour::{Cube, Region};
 use traversal::children::children_in;
-use traversal::octant::{ends, most};
-use words::layout::{octant_child, octant_first};
+use traversal::octant::{child_at, ends, most};
+use words::layout::octant_first;
 use words::tables::Tables;
 
 // An entered octant's own samples.
@@ -70,7 +70,7 @@ fn visit(
     let limit = tables.octant_limit();
     let parent = parent_of(cube);
     for k in children_in(overlapping(*region, parent)) {
-        let next = octant_child(tables.octants, row, k);
+        let next = child_at(tables.octants, row, k);
         if tally.may_enter(next, limit) {
             visit(tables, region, next, child(parent, k), listing, tally);
         }

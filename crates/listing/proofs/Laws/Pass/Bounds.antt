@@ -13,11 +13,12 @@ use Rattle.colour.specs.declared.Region.{Region}
 use Rattle.colour.specs.Colour.{black}
 use Rattle.colour.specs.Octant.{depths, children, child_low}
 use Rattle.colour.specs.Region.{overlaps, inside}
-use Rattle.model.specs.Layout.{Child, current}
-use Rattle.words.specs.Rows.{octant_field, octant_limit, sample_budget}
+use Rattle.model.specs.Layout.{current}
+use Rattle.words.specs.Rows.{octant_limit, sample_budget}
 use Rattle.listing.specs.Pass.{Tally, Visit, measured_after, visiting, tally_entering, own_samples, enters, nothing, and_then, visit_each, child_visit, ends, visit_of, no_tally, pass_of}
 use Rattle.listing.specs.Steps.{TallyWithin}
 use Rattle.traversal.specs.Own.{own_rows}
+use Rattle.traversal.specs.Children.{child_at}
 use Rattle.traversal.proofs.Laws.Rows.{own_few}
 use Rattle.listing.proofs.Laws.Pass.Tags.{tags_few}
 
@@ -89,13 +90,13 @@ module _ (ws os : List ℕ) (R : Region) where
       → ((at : ℕ) (l : Colour) (u : Tally) → u.next ≤ at → at < limit → TallyWithin budget limit u → Bounded budget limit u (below at l u))
       → (k : ℕ) (u : Tally) → TallyWithin budget limit u → Bounded budget limit u (child_visit os R below s row low k u)
   unfolding child_visit
-  child_bounded below s row low h k u limits = go (enters os R s (child_low s k low) (octant_field current os row (Child k)) u) refl
+  child_bounded below s row low h k u limits = go (enters os R s (child_low s k low) (child_at os row k) u) refl
     where
-      go : (r : Bool) → enters os R s (child_low s k low) (octant_field current os row (Child k)) u ≡ r
+      go : (r : Bool) → enters os R s (child_low s k low) (child_at os row k) u ≡ r
           → Bounded budget limit u (child_visit os R below s row low k u)
       go true e =
-          let w = enters_row os R s (child_low s k low) (octant_field current os row (Child k)) u e in
-          rw (e, child_visit) (h (octant_field current os row (Child k)) (child_low s k low) u w.1.0 w.1.1 limits)
+          let w = enters_row os R s (child_low s k low) (child_at os row k) u e in
+          rw (e, child_visit) (h (child_at os row k) (child_low s k low) u w.1.0 w.1.1 limits)
       go false e = rw (e, child_visit) (nothing_bounded budget limit u limits)
 
   pub visit_bounded : (j row : ℕ) (low : Colour) (t : Tally) → t.next ≤ row → row < limit → TallyWithin budget limit t

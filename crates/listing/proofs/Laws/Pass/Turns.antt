@@ -10,8 +10,9 @@ use Rattle.colour.specs.Channels.{Colour}
 use Rattle.colour.specs.declared.Region.{Region}
 use Rattle.colour.specs.Octant.{child_low}
 use Rattle.colour.specs.Region.{overlaps}
-use Rattle.model.specs.Layout.{Child, current}
-use Rattle.words.specs.Rows.{octant_field, octant_limit}
+use Rattle.model.specs.Layout.{current}
+use Rattle.words.specs.Rows.{octant_limit}
+use Rattle.traversal.specs.Children.{child_at}
 use Rattle.listing.specs.Pass.{Tally, Visit, enters, nothing, and_then, visit_each, child_visit}
 
 -- A visit that finds nothing adds nothing.
@@ -44,7 +45,7 @@ module _ (f : ℕ → Tally → Visit) (t : Tally) where
           ∙ then_nothing (visit_each f k t) (f k) (s k l (omega arith) (visit_each f k t).after)
           ∙ ih l
 
--- When a child is not entered: its word is 0, and row 0 is the root's, which is passed; it does not overlap; its row is passed or not there.
+-- When a child is not entered: its row is 0, the root's, which is passed; it does not overlap; its row is passed or not there.
 module _ (os : List ℕ) (R : Region) (s : ℕ) (low : Colour) (row : ℕ) (t : Tally) where
   -- The octant's row is past those entered before, and the table has it.
   abbrev pub allowed : Bool
@@ -72,11 +73,11 @@ module _ (os : List ℕ) (R : Region) (s : ℕ) (low : Colour) (row : ℕ) (t : 
 
 -- What the visit of a child is then.
 module _ (os : List ℕ) (R : Region) (f : ℕ → Colour → Tally → Visit) (s row : ℕ) (low : Colour) (k : ℕ) (t : Tally) where
-  pub turned_off : enters os R s (child_low s k low) (octant_field current os row (Child k)) t ≡ false → child_visit os R f s row low k t ≡ nothing t
+  pub turned_off : enters os R s (child_low s k low) (child_at os row k) t ≡ false → child_visit os R f s row low k t ≡ nothing t
   unfolding child_visit
   turned_off e = rw (e, child_visit)
 
-  pub turned_in : enters os R s (child_low s k low) (octant_field current os row (Child k)) t ≡ true
-      → child_visit os R f s row low k t ≡ f (octant_field current os row (Child k)) (child_low s k low) t
+  pub turned_in : enters os R s (child_low s k low) (child_at os row k) t ≡ true
+      → child_visit os R f s row low k t ≡ f (child_at os row k) (child_low s k low) t
   unfolding child_visit
   turned_in e = rw (e, child_visit)

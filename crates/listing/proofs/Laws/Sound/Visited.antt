@@ -15,7 +15,7 @@ use Rattle.colour.specs.Octant.{children, child_low}
 use Rattle.colour.specs.Region.{overlaps, inside}
 use Rattle.model.specs.Lists.{keep, joined, total}
 use Rattle.model.specs.SampleSet.{Placed, part, splits, order_of, octants_of}
-use Rattle.model.specs.Layout.{Child, current}
+use Rattle.model.specs.Layout.{current}
 use Rattle.model.specs.Tables.{pair, child_row, row_or_none, octant_word}
 use Rattle.model.specs.Queries.{Counts, no_counts, visit}
 use Rattle.model.specs.Machine.{Machine}
@@ -25,13 +25,13 @@ use Rattle.model.proofs.Tree.Cubes.{below}
 use Rattle.model.proofs.Tree.Order.{order_of_length, parts_length}
 use Rattle.model.proofs.Tree.Splits.{order_split, octants_split, child_within}
 use Rattle.octree.proofs.Laws.Tables.Check.{settings_shown}
-use Rattle.words.specs.Rows.{octant_field}
 use Rattle.listing.specs.Pass.{Tally, Visit, tally_entering, enters, nothing, and_then, visit_each, child_visit, ends, visit_of}
 use Rattle.listing.proofs.Laws.Pass.Turns.{passed_by, apart_from, goes_in, turned_off, turned_in}
 use Rattle.traversal.specs.Own.{ends_at}
+use Rattle.traversal.specs.Children.{child_at}
 use Rattle.traversal.proofs.Laws.Sound.Shown.{limit_shown}
 use Rattle.traversal.proofs.Laws.Sound.Held.{held_count}
-use Rattle.traversal.proofs.Laws.Sound.Standing.{child_word_lem, child_stands, octants_some}
+use Rattle.traversal.proofs.Laws.Sound.Standing.{child_row_lem, child_stands, octants_some}
 use Rattle.listing.proofs.Laws.Sound.Counted.{child_counts, visit_empty, visit_misses, visit_split}
 use Rattle.listing.proofs.Laws.Sound.Own.{listed_of, listed_append, Stands, Agrees, none_listed, ended_agrees}
 
@@ -94,8 +94,8 @@ module _ (ws os : List ℕ) (m : Machine) (shows : Shows current m (pair ws os))
 
     -- The bounds never keep it out.
     pub never_barred : (k : ℕ) (l : k < children) (u : Tally) → 1 ≤ length (kid k) → overlaps R (2 ^ j) (child_low (2 ^ j) k low) ≡ true
-        → u.visited + length (kid k) ≤ n → octant_field current os at (Child k) ≡ child_row b j at xs k → u.next ≤ child_row b j at xs k
-        → enters os R (2 ^ j) (child_low (2 ^ j) k low) (octant_field current os at (Child k)) u ≡ true
+        → u.visited + length (kid k) ≤ n → child_at os at k ≡ child_row b j at xs k → u.next ≤ child_row b j at xs k
+        → enters os R (2 ^ j) (child_low (2 ^ j) k low) (child_at os at k) u ≡ true
     never_barred k l u g o r w h =
         goes_in _ _ _ _ _ _ o (omega (arith, w))
         (omega (arith, w, (kid_stands k l u g o r).stands.within, octants_some b j (kid k) g, limit_shown ws os m shows))
@@ -119,14 +119,14 @@ module _ (ws os : List ℕ) (m : Machine) (shows : Shows current m (pair ws os))
       where
         none : kid k ≡ [] → Adds k u (turn k u)
         none e =
-            let w : octant_field current os at (Child k) ≡ 0 = child_word_lem ws os m shows st.stands split k l ∙ ap (row_or_none (child_row b j at xs k)) e in
-            let off : enters os R (2 ^ j) (child_low (2 ^ j) k low) (octant_field current os at (Child k)) u ≡ false = passed_by _ _ _ _ _ _ w (omega arith) in
+            let w : child_at os at k ≡ 0 = child_row_lem ws os m shows st.stands split k l ∙ ap (row_or_none (child_row b j at xs k)) e in
+            let off : enters os R (2 ^ j) (child_low (2 ^ j) k low) (child_at os at k) u ≡ false = passed_by _ _ _ _ _ _ w (omega arith) in
             subst (Adds k u) (sym (turned_off _ _ _ _ _ _ _ _ off))
             (adds_nothing k u p h
             (ap (λ (zs : List Placed). tags_in (order_of b j zs)) e ∙ ap tags_in (nil_from_length (order_of b j []) (order_of_length b j [])))
             (ap (visit R b j (child_low (2 ^ j) k low)) e ∙ visit_empty R b j (child_low (2 ^ j) k low)))
 
-        some : 1 ≤ length (kid k) → octant_field current os at (Child k) ≡ child_row b j at xs k → (q : Bool)
+        some : 1 ≤ length (kid k) → child_at os at k ≡ child_row b j at xs k → (q : Bool)
             → overlaps R (2 ^ j) (child_low (2 ^ j) k low) ≡ q → Adds k u (turn k u)
         some g w false o =
             subst (Adds k u) (sym (turned_off _ _ _ _ _ _ _ _ (apart_from _ _ _ _ _ _ o)))
@@ -141,7 +141,7 @@ module _ (ws os : List ℕ) (m : Machine) (shows : Shows current m (pair ws os))
         go : (zs : List Placed) → kid k ≡ zs → Adds k u (turn k u)
         go [] e = none e
         go (z ∷ zs) e =
-            some (omega (arith, ap length e)) (child_word_lem ws os m shows st.stands split k l ∙ ap (row_or_none (child_row b j at xs k)) e)
+            some (omega (arith, ap length e)) (child_row_lem ws os m shows st.stands split k l ∙ ap (row_or_none (child_row b j at xs k)) e)
             (overlaps R (2 ^ j) (child_low (2 ^ j) k low)) refl
 
     record Turned (k : ℕ) (w : Visit) : Type 0 where

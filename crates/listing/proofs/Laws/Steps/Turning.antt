@@ -15,8 +15,9 @@ use Rattle.colour.specs.Octant.{children, child_low}
 use Rattle.colour.specs.Mask.{mask_of, overlap_mask}
 use Rattle.colour.specs.Region.{overlaps}
 use Rattle.colour.proofs.Laws.Mask.{from, mask_start}
-use Rattle.model.specs.Layout.{Child, current}
-use Rattle.words.specs.Rows.{octant_field, octant_limit, sample_budget}
+use Rattle.model.specs.Layout.{current}
+use Rattle.words.specs.Rows.{octant_limit, sample_budget}
+use Rattle.traversal.specs.Children.{child_at}
 use Rattle.traversal.specs.Places.{children_in}
 use Rattle.traversal.proofs.Laws.Places.{NextChild, next_child, no_child}
 use Rattle.listing.specs.Pass.{Tally, Visit, nothing, and_then, visit_each, child_visit, visit_of}
@@ -74,7 +75,7 @@ module _ (ws os : List ℕ) (R : Region) (j row : ℕ) (low : Colour) where
 
   -- The row of child k, and whether it may be entered.
   abbrev pub at : ℕ → ℕ
-  at k = octant_field current os row (Child k)
+  at k = child_at os row k
 
   abbrev pub allowed : ℕ → Tally → Bool
   allowed k u = leb u.next (at k) && ltb (at k) (octant_limit current os)

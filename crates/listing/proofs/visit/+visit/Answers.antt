@@ -42,7 +42,7 @@ permitted : (t : ℕ) (c : After-may_enter t)
     c.in-Some.k (tally_in c.loop-k.tally)
     ≡ c.may_enter.result
 permitted t c =
-    allowed_is _ _ _ _ _ _ c.loop-k.invariant c.in-Some.ensures.steps _ _ _ c.octant_child-next.ensures
+    allowed_is _ _ _ _ _ _ c.loop-k.invariant c.in-Some.ensures.steps _ _ _ c.child_at-next.ensures
     c.octant_limit-limit.ensures c.may_enter.ensures
 
 pub ends-requires : goal.ends-requires
@@ -68,9 +68,9 @@ loop-k-init t c =
     (ap (λ (x : Children). children_in x.left) c.into_iter-k-iterator.ensures.into_iter_gives ∙ c.children_in-k-items.ensures)
     (mask_is c.args.cube _ (halved t at.After-parent_of-parent) _ _ (c.overlapping.ensures.is ∙ ap (λ (x : Cube). overlap_mask c.args.region.now c.parent_of-parent.result.half x.low) c.parent_of-parent.ensures))
 
-pub octant_child-next-requires : goal.octant_child-next-requires
-octant_child-next-requires t c =
-    (limit_rows _ _ c.requires.next_bound.1, (found t (goal.at.octant_child-next-requires t c).In-Some).below)
+pub child_at-next-requires : goal.child_at-next-requires
+child_at-next-requires t c =
+    (limit_rows _ _ c.requires.next_bound.1, (found t (goal.at.child_at-next-requires t c).In-Some).below)
 
 pub visit-requires : goal.visit-requires
 visit-requires t c =
@@ -87,7 +87,7 @@ loop-k-preserved-then-may_enter t c =
     turning_visited _ _ _ _ _ _ c.loop-k.invariant c.in-Some.ensures.steps
     (permitted t at.After-may_enter ∙ c.if-may_enter.true)
     (child_visited c.args.cube _ (halved t at.After-parent_of-parent) _ _ _ _ _ _ _
-    (c.child.ensures.is ∙ ap (λ (x : Cube). child_cube x c.in-Some.k) c.parent_of-parent.ensures) c.octant_child-next.ensures c.visit.ensures)
+    (c.child.ensures.is ∙ ap (λ (x : Cube). child_cube x c.in-Some.k) c.parent_of-parent.ensures) c.child_at-next.ensures c.visit.ensures)
 
 pub loop-k-preserved : goal.loop-k-preserved
 loop-k-preserved t c =
