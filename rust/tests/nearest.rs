@@ -1,4 +1,4 @@
-//! The nearest sample, compared with the straight scan call by call.
+//! The nearest sample, compared with the straight scan call by call. Ties are in ties.rs.
 //!
 //! `cargo test --release` takes some seconds. The ignored tests ask more: `make test-long`, or
 //! `cargo test --release --test nearest -- --ignored`. Each test prints how many calls it compared, by call and number,
@@ -113,179 +113,6 @@ fn none_within() {
         }
     }
     compared.print("none within");
-}
-
-// Ties.
-
-/// The colours in range at these three distances from a centre: in any of the channels, on either side.
-fn mirrored(centre: Codes, [a, b, c]: [u32; 3]) -> Vec<Codes> {
-    let mut all = vec![];
-    for by in [[a, b, c], [a, c, b], [b, a, c], [b, c, a], [c, a, b], [c, b, a]] {
-        for side in 0..8 {
-            let at = |h: usize| {
-                if side >> h & 1 == 1 {
-                    centre[h].wrapping_add(by[h])
-                } else {
-                    centre[h].wrapping_sub(by[h])
-                }
-            };
-            all.push([0, 1, 2].map(at));
-        }
-    }
-    all.retain(|codes| codes.iter().all(|&code| code <= MOST_CODE));
-    all.sort();
-    all.dedup();
-    all
-}
-
-/// The same ones in another sequence.
-fn shuffled<T>(mut list: Vec<T>, state: &mut u64) -> Vec<T> {
-    (1..list.len()).for_each(|i| list.swap(i, below(i + 1, state)));
-    list
-}
-
-/// How many ties were compared: more than one sample at the least distance, and of those the ones with more than one
-/// colour, and where the sample that came in first is not the first in the order.
-#[derive(Default)]
-struct Ties {
-    all: usize,
-    apart: usize,
-    turned: usize,
-}
-
-impl Ties {
-    /// A tie, or not, at the least distance from a centre: asked with radii that hold all that are that far, and with
-    /// the greatest that holds none.
-    fn ask(&mut self, compared: &mut Compared, tables: &Tables, centre: Codes) {
-        let samples = samples_of(tables);
-        let Some(least) = samples.iter().map(|sample| distance(sample.codes, centre)).min() else { return };
-        let equal: Vec<&Sample> = samples.iter().filter(|sample| distance(sample.codes, centre) == least).collect();
-        let radii = radii_at(least);
-        for radius in [radii[1] + 1, MOST_RADIUS] {
-            let answer = ask(compared, tables, centre, radius);
-            assert_eq!(found(&answer).map(|(_, d2)| d2), Some(least));
-            self.all += (equal.len() > 1) as usize;
-            self.apart += equal.iter().any(|sample| sample.codes != equal[0].codes) as usize;
-            self.turned += (answer.tag != equal[0].tag) as usize;
-        }
-        assert_eq!(found(&ask(compared, tables, centre, radii[1])), None);
-    }
-
-    fn print(&self) {
-        println!("  ties {}, of unlike colours {}, not the first that came in {}", self.all, self.apart, self.turned);
-        assert!(self.all > self.apart && self.apart > self.turned && self.turned > 0);
-    }
-}
-
-/// Samples mirrored around a centre on each axis and on diagonals, all of them or some, in any sequence, some of them
-/// twice or more; and with others that are one code nearer or farther.
-fn mirrors(compared: &mut Compared, ties: &mut Ties, rounds: usize, mut state: u64) {
-    let state = &mut state;
-    let steps = [0, 1, 2, 3, 5, 255, 256, 4_096, 16_383, 16_384, 32_767];
-    for _ in 0..rounds {
-        let centre = match below(3, state) {
-            0 => [any_of(&plane_codes(), state); 3],
-            1 => [0; 3].map(|_: u32| any_of(&plane_codes(), state)),
-            _ => [0; 3].map(|_: u32| below(CODE_COUNT, state) as u32),
-        };
-        let by = match below(4, state) {
-            0 => [any_of(&steps, state), 0, 0],
-            1 => [any_of(&steps, state); 3],
-            2 => [any_of(&steps, state), any_of(&steps, state), 0],
-            _ => [0; 3].map(|_: u32| any_of(&steps, state)),
-        };
-        let mut colours = shuffled(mirrored(centre, by), state);
-        colours.truncate(1 + below(48, state));
-        for _ in 0..below(4, state) {
-            let Some(&codes) = colours.first() else { break };
-            let at = below(colours.len(), state);
-            colours.insert(at, codes);
-        }
-        if below(2, state) == 0 {
-            let others: Vec<Codes> = colours.iter().flat_map(|&codes| beside(codes)).collect();
-            colours.extend(some(others, 5, state));
-            colours = shuffled(colours, state);
-        }
-        let tables = Tables::of(exact(&tagged(colours), any_of(&BUCKETS, state)));
-        ties.ask(compared, &tables, centre);
-        for centre in some(beside(centre), 2, state) {
-            ties.ask(compared, &tables, centre);
-        }
-    }
-}
-
-/// Colours of a lattice that has a plane between octants on each of its steps, or next to it, with centres on it and
-/// half way: octants whose closest colour is as far as what was found before, and holds a sample.
-fn lattices(compared: &mut Compared, ties: &mut Ties, rounds: usize, mut state: u64) {
-    let state = &mut state;
-    for _ in 0..rounds {
-        let step = 1 << below(13, state);
-        let places = 2 + below(6, state);
-        let origin = [0; 3].map(|_: u32| (below(CODE_COUNT - places * step, state) / step * step) as u32);
-        let turn = any_of(&[0, step as u32 - 1], state);
-        let any = |state: &mut u64| origin.map(|code| (code + (below(places, state) * step) as u32) ^ turn);
-        let colours: Vec<Codes> = (0..2 + below(60, state)).map(|_| any(state)).collect();
-        let tables = Tables::of(exact(&tagged(colours), any_of(&BUCKETS, state)));
-        for _ in 0..4 {
-            let half = any_of(&[0, step as u32 / 2], state);
-            let centre = any(state).map(|code| (code + half * below(2, state) as u32).min(MOST_CODE));
-            ties.ask(compared, &tables, centre);
-        }
-    }
-}
-
-#[test]
-fn mirrored_samples() {
-    let (mut compared, mut ties) = (Compared::default(), Ties::default());
-    mirrors(&mut compared, &mut ties, 4_000, 3);
-    compared.print("mirrored samples");
-    ties.print();
-}
-
-#[test]
-fn samples_on_a_lattice() {
-    let (mut compared, mut ties) = (Compared::default(), Ties::default());
-    lattices(&mut compared, &mut ties, 3_000, 4);
-    compared.print("samples on a lattice");
-    ties.print();
-}
-
-/// Two samples as far from a centre, in each two of the eight octants around it, with each of them first.
-#[test]
-fn two_octants() {
-    let mut compared = Compared::default();
-    let mut ties = Ties::default();
-    for (plane, by) in [(32_768, 1), (32_768, 32_767), (16_384, 1), (49_152, 9_000), (32_769, 1), (32_767, 1), (2, 1)] {
-        let corner = |k: u32| [0, 1, 2].map(|h| if k >> h & 1 == 1 { plane + by } else { plane - by });
-        for (one, other) in (0..8).flat_map(|one| (0..8).map(move |other| (one, other))) {
-            for bucket in BUCKETS {
-                let tables = Tables::of(exact(&tagged([corner(one), corner(other)]), bucket));
-                ties.ask(&mut compared, &tables, [plane; 3]);
-                if bucket == 1 && one != other {
-                    let first = samples_of(&tables)[tables.set.as_ref().unwrap().walk()[0]].tag;
-                    assert_eq!(ask(&mut compared, &tables, [plane; 3], MOST_RADIUS).tag, first);
-                }
-            }
-        }
-    }
-    compared.print("two octants");
-    ties.print();
-}
-
-/// Equal colours, more than any bucket holds.
-#[test]
-fn equal_colours() {
-    let mut compared = Compared::default();
-    for codes in [[0; 3], [MOST_CODE; 3], [32_767, 32_768, 300]] {
-        for tables in each([1, 2, 17, MOST_BUCKET as usize + 1, MOST_SAMPLES].map(|n| tagged(vec![codes; n])).to_vec())
-        {
-            for centre in beside(codes).into_iter().chain([[0; 3], [MOST_CODE; 3]]) {
-                let answer = ask(&mut compared, &tables, centre, MOST_RADIUS);
-                assert_eq!(found(&answer), Some((0, distance(codes, centre)))); // the tag of the first
-            }
-        }
-    }
-    compared.print("equal colours");
 }
 
 // Large sets, floats, numbers.
@@ -453,6 +280,14 @@ fn long_tables_that_point_everywhere() {
     });
 }
 
+/// The colour of a row with one bit of one channel flipped: a centre whose way parts from that sample's at any depth,
+/// so that the search goes down a way and then off it.
+fn off_the_way(samples: &[u32], state: &mut u64) -> Codes {
+    let mut codes = row_codes(samples, state);
+    codes[below(3, state)] ^= 1 << below(CODE_COUNT.trailing_zeros() as usize, state);
+    codes
+}
+
 /// The call stays within the stack that the header says, on the deepest tree and on words that lead as deep.
 #[test]
 fn within_the_stack() {
@@ -462,8 +297,9 @@ fn within_the_stack() {
     in_stack_of_a_query(move || {
         for (samples, octants) in &tables {
             for _ in 0..80 {
-                let centre = row_codes(samples, &mut state).map(float);
-                _ = hubeltxa::lent::nearest(samples, octants, centre, float(MOST_RADIUS));
+                for centre in [row_codes(samples, &mut state), off_the_way(samples, &mut state)] {
+                    _ = hubeltxa::lent::nearest(samples, octants, centre.map(float), float(MOST_RADIUS));
+                }
             }
         }
     });
@@ -472,17 +308,14 @@ fn within_the_stack() {
 // Long.
 
 #[test]
-#[ignore = "long: many centres, radii and ties"]
+#[ignore = "long: many centres and radii"]
 fn nearest_long() {
-    let (mut compared, mut ties) = (Compared::default(), Ties::default());
+    let mut compared = Compared::default();
     around(&mut compared, centres, 6_000, 1_001);
     around(&mut compared, centres_on_planes, 6_000, 1_002);
-    mirrors(&mut compared, &mut ties, 100_000, 1_003);
-    lattices(&mut compared, &mut ties, 100_000, 1_004);
     large(&mut compared, any_query, 100, 1_005);
     (0..10).for_each(|seed| sequences(&mut compared, any_query, 100, 200, 1_010 + seed));
     compared.print("nearest, long");
-    ties.print();
 }
 
 #[test]
