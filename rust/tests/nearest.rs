@@ -12,6 +12,7 @@ mod straight_scan;
 mod asked;
 mod compared;
 mod damage;
+mod deep;
 mod lent;
 mod limits;
 mod numbers;
@@ -301,6 +302,20 @@ fn within_the_stack() {
                     _ = hubeltxa::lent::nearest(samples, octants, centre.map(float), float(MOST_RADIUS));
                 }
             }
+        }
+    });
+}
+
+/// The same from corners, on tables that lead down by one way alone or to one row again and again. Their samples are
+/// measured at the last depth alone, so a search that finds one went down as far.
+#[test]
+fn within_the_stack_from_corners() {
+    let tables: Vec<deep::Words> =
+        deep::lone_pairs().into_iter().chain(deep::chains()).chain([deep::leading_back()]).collect();
+    in_stack_of_a_query(move || {
+        for ((samples, octants), centre) in tables.iter().flat_map(|words| deep::corners().map(move |at| (words, at))) {
+            let found = hubeltxa::lent::nearest(samples, octants, centre.map(float), float(MOST_RADIUS));
+            assert!(matches!(found, Ok(Some(_))));
         }
     });
 }

@@ -12,6 +12,7 @@ mod straight_scan;
 mod asked;
 mod compared;
 mod damage;
+mod deep;
 mod lent;
 mod limits;
 mod numbers;
@@ -390,6 +391,23 @@ fn within_the_stack() {
         for ((samples, octants), queries) in tables.iter().zip(&queries) {
             ask_all(samples, octants, queries, &mut listing);
             ask_all(samples, octants, queries, &mut listing[..20]);
+        }
+    });
+}
+
+/// The same around single colours in corners, on tables that lead down to them: an octant of each depth is entered.
+#[test]
+fn within_the_stack_at_corners() {
+    let all = deep::chains().pop().unwrap();
+    let tables = deep::lone_pairs().into_iter().zip(deep::corners());
+    let tables: Vec<_> = tables.chain(deep::corners().map(|corner| (all.clone(), corner))).collect();
+    in_stack_of_a_query(move || {
+        for ((samples, octants), corner) in &tables {
+            let (centre, mut listing) = (corner.map(float), [0; 2]);
+            let ball =
+                hubeltxa::lent::ball(samples, octants, centre, float(1), &mut listing).map(|found| found.entered);
+            let boxed = hubeltxa::lent::box_(samples, octants, centre, centre, &mut listing).map(|found| found.entered);
+            assert_eq!([ball, boxed], [Ok(deep::DEPTHS as u32); 2]);
         }
     });
 }
