@@ -87,7 +87,20 @@ fn lattices(ties: &mut Ties, rounds: usize, mut state: u64) {
 fn mirrored_samples() {
     let mut ties = Ties::default();
     mirrors(&mut ties, 4_000, 3);
-    ties.print("mirrored samples", Seen { none: 12_000, apart: 7_000, turned: 4_000, together: 7_000, alike: 6_000 });
+    ties.print(
+        "mirrored samples",
+        Seen {
+            none: 12_000,
+            apart: 7_000,
+            turned: 4_000,
+            plane: 2_000,
+            edge: 700,
+            corner: 600,
+            beyond: 150,
+            together: 7_000,
+            alike: 6_000,
+        },
+    );
 }
 
 #[test]
@@ -96,7 +109,17 @@ fn samples_on_a_lattice() {
     lattices(&mut ties, 3_000, 4);
     ties.print(
         "samples on a lattice",
-        Seen { none: 12_000, apart: 4_500, turned: 2_400, together: 3_000, alike: 7_000 },
+        Seen {
+            none: 12_000,
+            apart: 4_500,
+            turned: 2_400,
+            plane: 1_800,
+            edge: 500,
+            corner: 140,
+            beyond: 70,
+            together: 3_000,
+            alike: 7_000,
+        },
     );
 }
 
@@ -118,7 +141,10 @@ fn two_octants() {
             }
         }
     }
-    ties.print("two octants", Seen { none: 1_500, apart: 700, turned: 500, together: 2_000, alike: 400 });
+    ties.print(
+        "two octants",
+        Seen { none: 1_500, apart: 700, turned: 500, corner: 700, together: 2_000, alike: 400, ..Seen::default() },
+    );
 }
 
 // Two siblings.
@@ -211,54 +237,123 @@ fn crowd(pair: [Codes; 2], centre: Codes, colours: &Children, bucket: u32, state
     shuffled(all, state)
 }
 
-/// Where a tie is asked for: the depth of an octant; the child that the centre is in, or that it is closest to if it is
-/// outside; whether it is; and the two children that the samples are in.
-type Place = (u32, usize, bool, [usize; 2]);
+/// Each two of eight children, the lower one first, as it is in the order.
+fn pairs() -> impl Iterator<Item = [usize; 2]> {
+    (0..64).map(|i| [i / 8, i % 8]).filter(|[found, other]| found < other)
+}
 
-/// A centre there, the colours around it, and one of each of the two children that are as far from it; if some tries
-/// find them.
-fn tie_at((depth, child, outside, [one, other]): Place, state: &mut u64) -> Option<(Codes, Children, [Codes; 2])> {
-    (0..12).find_map(|_| {
-        let octant = any_octant(depth, state);
-        let centre = if outside { centre_outside(&octant, child, state) } else { centre_in(&octant, child, state) };
-        let colours = in_range(&centre).then(|| colours_in(&octant, centre, state))?;
-        let pair = tie(centre, &colours[one], &colours[other])?;
-        Some((centre, colours, pair))
+/// Each two children of an octant, on each way down, with the centre inside and outside; whichever sample came in first.
+fn all_siblings(depth: u32) -> impl Iterator<Item = Siblings> {
+    pairs().flat_map(move |[found, other]| {
+        (0..32).map(move |i| Siblings { depth, way: i % 8, outside: i & 8 > 0, found, other, later: i & 16 > 0 })
     })
 }
 
-/// Samples that are as far, in each two children of an octant, with the centre in each child and outside; in one
-/// sequence and in the other. Gives how many of the places with the centre inside, and outside, had a tie.
-fn siblings(ties: &mut Ties, depth: u32, bucket: u32, mut state: u64) -> [usize; 2] {
-    let state = &mut state;
-    let mut places = [0; 2];
-    let pairs = || (0..64).map(|i| [i % 8, i / 8]).filter(|[one, other]| one != other);
-    for (child, outside, pair) in (0..16).flat_map(|i| pairs().map(move |pair| (i % 8, i >= 8, pair))) {
-        let Some((centre, colours, pair)) = tie_at((depth, child, outside, pair), state) else { continue };
-        places[outside as usize] += 1;
-        let mut crowd = crowd(pair, centre, &colours, bucket, state);
-        for _ in 0..2 {
-            crowd.reverse();
-            ties.ask(&Tables::of(exact(&tagged(crowd.clone()), bucket)), centre);
-        }
+/// Whether samples in two children can be as far from a centre. No centre is outside the whole. In an octant of side 4,
+/// each colour of the child on the way is closer to a centre outside than any of the child across from it. In one of
+/// side 2, children are single colours; those that differ from the one on the way in as many channels can be as far. In
+/// all others there are some, somewhere.
+fn can_tie(siblings: &Siblings) -> bool {
+    let Siblings { depth, way, outside, found, other, .. } = *siblings;
+    match CODE_COUNT >> depth {
+        CODE_COUNT => !outside,
+        4 => !outside || found ^ other != 7 || (way != found && way != other),
+        2 => (way ^ found).count_ones() == (way ^ other).count_ones(),
+        _ => true,
     }
-    places
 }
 
-/// In octants of side 2, whose children are single colours, two of them are as far from a colour inside only if they
-/// differ from it in as many channels: 12 of the 56 pairs. In greater ones all are, somewhere.
-#[test]
-fn each_two_siblings() {
-    let mut ties = Ties::default();
-    for depth in DEPTHS {
-        let inside = 8 * if CODE_COUNT >> depth == 2 { 12 } else { 56 };
-        for bucket in SIZES {
-            let places = siblings(&mut ties, depth, bucket, (100 * depth + bucket) as u64);
-            assert_eq!(places[0], inside);
-            assert!(depth == 0 || 4 * places[1] > 3 * inside, "{} places outside", places[1]);
+/// A centre and samples that have such a tie, if a try finds them.
+fn tie_of(siblings: &Siblings, bucket: u32, state: &mut u64) -> Option<(Codes, Vec<Codes>)> {
+    let Siblings { depth, way, outside, found, other, .. } = *siblings;
+    let octant = any_octant(depth, state);
+    let centre = if outside { centre_outside(&octant, way, state) } else { centre_in(&octant, way, state) };
+    let colours = in_range(&centre).then(|| colours_in(&octant, centre, state))?;
+    let pair = tie(centre, &colours[found], &colours[other])?;
+    Some((centre, crowd(pair, centre, &colours, bucket, state)))
+}
+
+/// Samples that are as far, in each two children of an octant, until each tie that can be was met.
+fn siblings(ties: &mut Ties, depth: u32, bucket: u32, mut state: u64) {
+    let state = &mut state;
+    ties.met.clear();
+    for siblings in all_siblings(depth).filter(can_tie) {
+        let mut tries = (0..10_000).filter_map(|_| tie_of(&siblings, bucket, state));
+        while !ties.met.contains(&siblings) {
+            let (centre, crowd) = tries.next().unwrap_or_else(|| panic!("no tie of {siblings:?}"));
+            ties.ask(&Tables::of(exact(&tagged(crowd), bucket)), centre);
         }
     }
-    ties.print("each two siblings", Seen { none: 19_000, apart: 38_000, turned: 19_000, together: 200, alike: 9_000 });
+}
+
+/// In octants of each depth, every tie that can be was met, and no other; and each two children had one with the
+/// centre beside none of the planes between the eight, beside one, two and three.
+fn each_two_siblings(bucket: u32, least: Seen) {
+    let mut ties = Ties::default();
+    for depth in 0..CODE_COUNT.trailing_zeros() {
+        siblings(&mut ties, depth, bucket, (100 * depth + bucket) as u64);
+        for siblings in all_siblings(depth) {
+            assert_eq!(ties.met.contains(&siblings), can_tie(&siblings), "{siblings:?}");
+        }
+    }
+    for ([found, other], planes) in pairs().flat_map(|pair| (0..4).map(move |planes| (pair, planes))) {
+        assert!(ties.beside.contains(&(found, other, planes)), "children {found} and {other}, {planes} planes");
+    }
+    ties.print(&format!("each two siblings, bucket size {bucket}"), least);
+}
+
+#[test]
+fn siblings_of_one_sample() {
+    each_two_siblings(
+        1,
+        Seen {
+            none: 19_000,
+            apart: 39_000,
+            turned: 19_000,
+            plane: 11_000,
+            edge: 5_000,
+            corner: 8_500,
+            beyond: 19_000,
+            alike: 100,
+            ..Seen::default()
+        },
+    );
+}
+
+#[test]
+fn siblings_of_two_samples() {
+    each_two_siblings(
+        2,
+        Seen {
+            none: 17_000,
+            apart: 34_000,
+            turned: 17_000,
+            plane: 9_500,
+            edge: 4_000,
+            corner: 7_500,
+            beyond: 16_500,
+            together: 50,
+            alike: 11_500,
+        },
+    );
+}
+
+#[test]
+fn siblings_of_sixteen_samples() {
+    each_two_siblings(
+        16,
+        Seen {
+            none: 16_500,
+            apart: 33_000,
+            turned: 17_000,
+            plane: 9_000,
+            edge: 4_000,
+            corner: 7_000,
+            beyond: 15_500,
+            together: 500,
+            alike: 12_000,
+        },
+    );
 }
 
 // Planes.
@@ -302,7 +397,17 @@ fn corners_between_octants() {
     corners(&mut ties, 700, 5);
     ties.print(
         "corners between octants",
-        Seen { none: 18_000, apart: 4_500, turned: 3_000, together: 2_500, alike: 5_000 },
+        Seen {
+            none: 18_000,
+            apart: 4_500,
+            turned: 3_000,
+            plane: 1_800,
+            edge: 1_500,
+            corner: 1_300,
+            beyond: 140,
+            together: 2_500,
+            alike: 5_000,
+        },
     );
 }
 
@@ -337,7 +442,17 @@ fn far_halves_a_code_apart() {
     far_halves(&mut ties, 60, 6);
     ties.print(
         "far halves a code apart",
-        Seen { none: 9_500, apart: 10_000, turned: 5_000, together: 700, alike: 4_000 },
+        Seen {
+            none: 9_500,
+            apart: 10_000,
+            turned: 5_000,
+            plane: 3_000,
+            edge: 1_700,
+            corner: 250,
+            beyond: 30,
+            together: 700,
+            alike: 4_000,
+        },
     );
 }
 
@@ -396,7 +511,17 @@ fn centres_outside_the_octant() {
     outside(&mut ties, 2_500, 7);
     ties.print(
         "centres outside the octant",
-        Seen { none: 9_000, apart: 6_000, turned: 3_000, together: 2_000, alike: 5_500 },
+        Seen {
+            none: 9_000,
+            apart: 6_000,
+            turned: 3_000,
+            plane: 2_000,
+            edge: 2_500,
+            beyond: 6_000,
+            together: 2_000,
+            alike: 5_500,
+            ..Seen::default()
+        },
     );
 }
 
@@ -420,7 +545,17 @@ fn small_ranges_around_planes() {
     small_ranges(&mut ties, 1_500, 8);
     ties.print(
         "small ranges around planes",
-        Seen { none: 6_000, apart: 5_000, turned: 2_500, together: 2_000, alike: 500 },
+        Seen {
+            none: 6_000,
+            apart: 5_000,
+            turned: 2_500,
+            plane: 2_500,
+            edge: 1_300,
+            corner: 700,
+            beyond: 10,
+            together: 2_000,
+            alike: 500,
+        },
     );
 }
 
@@ -444,7 +579,19 @@ fn all_mirrored(ties: &mut Ties, rounds: usize, mut state: u64) {
 fn many_as_far() {
     let mut ties = Ties::default();
     all_mirrored(&mut ties, 1_000, 9);
-    ties.print("many as far", Seen { none: 4_000, apart: 5_500, turned: 5_500, together: 5_000, alike: 0 });
+    ties.print(
+        "many as far",
+        Seen {
+            none: 4_000,
+            apart: 5_500,
+            turned: 5_500,
+            plane: 2_000,
+            edge: 500,
+            corner: 800,
+            together: 5_000,
+            ..Seen::default()
+        },
+    );
 }
 
 /// Ties between the first, the last and the middle rows of a full table, in one octant or in several; all else is
@@ -468,7 +615,10 @@ fn rows_of_full_tables(ties: &mut Ties, rounds: usize, mut state: u64) {
 fn rows_far_apart() {
     let mut ties = Ties::default();
     rows_of_full_tables(&mut ties, 60, 10);
-    ties.print("rows far apart", Seen { none: 60, apart: 30, turned: 30, together: 90, alike: 0 });
+    ties.print(
+        "rows far apart",
+        Seen { none: 60, apart: 30, turned: 30, plane: 10, edge: 10, corner: 10, together: 90, ..Seen::default() },
+    );
 }
 
 /// Equal colours, more than any bucket holds.
@@ -496,8 +646,8 @@ fn ties_long() {
     let mut ties = Ties::default();
     mirrors(&mut ties, 100_000, 1_003);
     lattices(&mut ties, 100_000, 1_004);
-    for (depth, bucket) in (0..16).flat_map(|depth| [1, 2, 3, 16].map(|bucket| (depth, bucket))) {
-        siblings(&mut ties, depth, bucket, 1_100 + (100 * depth + bucket) as u64);
+    for i in 0..16 * 16 {
+        siblings(&mut ties, i % 16, [1, 2, 3, 16][i as usize / 64], 1_100 + i as u64);
     }
     corners(&mut ties, 20_000, 1_005);
     far_halves(&mut ties, 2_000, 1_006);
@@ -507,6 +657,16 @@ fn ties_long() {
     rows_of_full_tables(&mut ties, 2_000, 1_010);
     ties.print(
         "ties, long",
-        Seen { none: 2_000_000, apart: 1_400_000, turned: 800_000, together: 600_000, alike: 850_000 },
+        Seen {
+            none: 2_300_000,
+            apart: 1_750_000,
+            turned: 1_000_000,
+            plane: 580_000,
+            edge: 320_000,
+            corner: 220_000,
+            beyond: 430_000,
+            together: 600_000,
+            alike: 950_000,
+        },
     );
 }

@@ -4,6 +4,7 @@ use crate::asked::*;
 use crate::compared::{Compared, Tables};
 use crate::numbers::*;
 use crate::straight_scan::{distance, Bin, Codes, Sample};
+use std::collections::BTreeSet;
 
 /// An octant that can be split: its lowest corner, and the side of its children.
 #[derive(Clone, Copy)]
@@ -13,11 +14,16 @@ pub struct Octant {
 }
 
 impl Octant {
-    /// The smallest one that holds both of two unlike colours, which lie in two children of it.
-    fn of(one: Codes, other: Codes) -> Self {
-        let unlike = (0..3).fold(0, |bits, h| bits | (one[h] ^ other[h]));
+    /// The smallest one that holds all of these, of which two are unlike: they lie in two children of it, or in more.
+    fn of(colours: &[Codes]) -> Self {
+        let one = colours[0];
+        let unlike = colours.iter().fold(0, |bits, codes| (0..3).fold(bits, |bits, h| bits | (one[h] ^ codes[h])));
         let half = 1 << unlike.ilog2();
         Octant { low: one.map(|code| code / (2 * half) * (2 * half)), half }
+    }
+
+    pub fn depth(&self) -> u32 {
+        (CODE_COUNT as u32 / (2 * self.half)).ilog2()
     }
 
     pub fn holds(&self, codes: Codes) -> bool {
@@ -34,6 +40,27 @@ impl Octant {
     fn turn(&self, centre: Codes, codes: Codes) -> usize {
         self.child(codes) ^ self.child(centre)
     }
+
+    /// In how many channels a centre is one of the two codes beside the plane between the children.
+    fn planes(&self, centre: Codes) -> usize {
+        let beside = |&h: &usize| [self.low[h] + self.half - 1, self.low[h] + self.half].contains(&centre[h]);
+        (0..3).filter(beside).count()
+    }
+}
+
+/// A tie between two children of an octant that is split.
+#[derive(Clone, Copy, Debug, PartialEq, Eq, PartialOrd, Ord)]
+pub struct Siblings {
+    /// The depth of the octant.
+    pub depth: u32,
+    /// The child on the way down: the one that the centre is in, or that it is closest to if it is outside the octant.
+    pub way: usize,
+    pub outside: bool,
+    /// The child of the sample that is found, and that of the other one.
+    pub found: usize,
+    pub other: usize,
+    /// The other sample came in before the one that is found.
+    pub later: bool,
 }
 
 /// How many queries found none, and how many found one of several that are as far.
@@ -43,8 +70,14 @@ pub struct Seen {
     pub none: usize,
     /// One as far is in another octant.
     pub apart: usize,
-    /// Of these, a search comes to one before the one that is found, which is before it in the order.
+    /// Of these, a search comes to that one before the one that is found, which is before it in the order.
     pub turned: usize,
+    /// Of these, the centre is beside one of the planes between the children; and beside two, and all three.
+    pub plane: usize,
+    pub edge: usize,
+    pub corner: usize,
+    /// Of these, the centre is outside the smallest octant that holds the whole set.
+    pub beyond: usize,
     /// One as far, of another colour, is in the same octant.
     pub together: usize,
     /// One as far has the same colour.
@@ -52,9 +85,19 @@ pub struct Seen {
 }
 
 impl Seen {
-    fn all(&self) -> [(&'static str, usize); 5] {
-        let Seen { none, apart, turned, together, alike } = *self;
-        [("none", none), ("apart", apart), ("turned", turned), ("together", together), ("alike", alike)]
+    fn all(&self) -> [(&'static str, usize); 9] {
+        let Seen { none, apart, turned, plane, edge, corner, beyond, together, alike } = *self;
+        [
+            ("none", none),
+            ("apart", apart),
+            ("turned", turned),
+            ("plane", plane),
+            ("edge", edge),
+            ("corner", corner),
+            ("beyond", beyond),
+            ("together", together),
+            ("alike", alike),
+        ]
     }
 }
 
@@ -63,6 +106,11 @@ impl Seen {
 pub struct Ties {
     pub compared: Compared,
     seen: Seen,
+    /// The ties between two children of an octant, since this was last cleared.
+    pub met: BTreeSet<Siblings>,
+    /// The children that the found sample and the other were in, and beside how many of the planes between the eight
+    /// the centre was.
+    pub beside: BTreeSet<(usize, usize, usize)>,
 }
 
 impl Ties {
@@ -85,18 +133,43 @@ impl Ties {
     /// Counts the sample that was found, and what is as far.
     fn count(&mut self, set: &Bin, centre: Codes, found: &Sample, equal: &[&Sample]) {
         let [mut apart, mut turned, mut together] = [false; 3];
+        let mut planes = [false; 4];
         for sample in equal.iter().filter(|sample| sample.codes != found.codes) {
-            let octant = Octant::of(found.codes, sample.codes);
+            let octant = Octant::of(&[found.codes, sample.codes]);
             let within = set.samples.iter().filter(|sample| octant.holds(sample.codes)).count();
             let split = within > set.bucket as usize;
             together |= !split;
             apart |= split;
             turned |= split && octant.turn(centre, sample.codes) < octant.turn(centre, found.codes);
+            planes[octant.planes(centre)] |= split;
+            if split {
+                self.count_siblings(set, &octant, centre, [found, sample]);
+            }
         }
         self.seen.apart += apart as usize;
         self.seen.turned += turned as usize;
+        self.seen.plane += planes[1] as usize;
+        self.seen.edge += planes[2] as usize;
+        self.seen.corner += planes[3] as usize;
+        self.seen.beyond += (apart && !around(set).holds(centre)) as usize;
         self.seen.together += together as usize;
         self.seen.alike += equal.iter().any(|sample| sample.codes == found.codes && sample.tag != found.tag) as usize;
+    }
+
+    /// Keeps that the sample that was found and another are as far, in two children of an octant.
+    fn count_siblings(&mut self, set: &Bin, octant: &Octant, centre: Codes, two: [&Sample; 2]) {
+        let [found, other] = two.map(|sample| octant.child(sample.codes));
+        let [row, other_row] = two.map(|sample| set.samples.iter().position(|one| one.tag == sample.tag));
+        let siblings = Siblings {
+            depth: octant.depth(),
+            way: octant.child(centre),
+            outside: !octant.holds(centre),
+            found,
+            other,
+            later: other_row < row,
+        };
+        self.met.insert(siblings);
+        self.beside.insert((found, other, octant.planes(centre)));
     }
 
     /// Prints how many calls were compared, and what was seen: at least so many of each.
@@ -107,4 +180,9 @@ impl Ties {
             assert!(seen >= least, "{what}: {name} {seen} times, of at least {least}");
         }
     }
+}
+
+/// The smallest octant that holds a set of unlike colours.
+fn around(set: &Bin) -> Octant {
+    Octant::of(&set.samples.iter().map(|sample| sample.codes).collect::<Vec<_>>())
 }
