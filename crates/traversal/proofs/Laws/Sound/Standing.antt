@@ -92,11 +92,6 @@ module _ (ws os : List ℕ) (m : Machine) (shows : Shows current m (pair ws os))
     unfolding child_at octant_word
     child_row_lem = held_word os b (suc j) at xs st.held st.some k l ∙ word_split b (suc j) at k xs split ∙ rw sub-one
 
-    -- Its word.
-    pub child_word_lem : octant_field current os at (Child k) ≡ row_or_none (child_row b j at xs k) (part j k xs)
-    unfolding child_at
-    child_word_lem = child_row_lem
-
     -- A child that holds a sample stands in the tree.
     pub child_stands : (visited' : ℕ) → 1 ≤ length (part j k xs) → visited' + length (part j k xs) ≤ n
         → Standing j (child_low (2 ^ j) k low) (part j k xs) (child_row b j at xs k) visited'
