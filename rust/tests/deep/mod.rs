@@ -25,8 +25,8 @@ pub fn lone_pairs() -> Vec<Words> {
     corners().map(|corner| exact(&tagged(pair(corner)), 1).tables()).collect()
 }
 
-/// Words that are no sound tables: one sample, which each octant row says that it has; only octants of a single colour
-/// measure it, since the others say that they have as many as a word can. A row has these children.
+/// Words that are no sound tables: one sample, and octant rows with these children, each of which says that it has as many
+/// samples as a word can say, from this one on. So it is measured in octants of a single colour alone.
 fn leading(rows: usize, children: impl Fn(usize) -> [u32; 8]) -> Words {
     let samples = [&sample_header(1, 1)[..], &sample_row(1, [MOST_CODE; 3], 0)].concat();
     let row = |row: usize| octant_row(0, 0, u32::MAX, children(row));
@@ -34,8 +34,8 @@ fn leading(rows: usize, children: impl Fn(usize) -> [u32; 8]) -> Words {
     (samples, octants)
 }
 
-/// A row for each depth, that leads on to the next by one child alone: by the same one each time, by each of the eight
-/// in turn, or by all of them.
+/// A row for each depth, which leads on to the next: by one child alone, the same each time or each of the eight in turn;
+/// the last tables by all eight.
 pub fn chains() -> Vec<Words> {
     let by_one = |k: usize, next: u32| [0, 1, 2, 3, 4, 5, 6, 7].map(|child| if child == k { next } else { 0 });
     let same = (0..8).map(|k| leading(DEPTHS, |row| by_one(k, row as u32 + 1)));

@@ -35,6 +35,14 @@ impl Octant {
         (0..3).map(|h| ((self.low[h] + self.half <= codes[h]) as usize) << h).sum()
     }
 
+    /// The colour of a child that is closest to a centre.
+    pub fn closest(&self, child: usize, centre: Codes) -> Codes {
+        [0, 1, 2].map(|h| {
+            let from = self.low[h] + self.half * (child >> h & 1) as u32;
+            centre[h].clamp(from, from + self.half - 1)
+        })
+    }
+
     /// In which turn a search for what is close to a centre comes to the child of a colour: the closest child is turn
     /// 0, and another one is the turn that has the bits of the channels in which it differs.
     fn turn(&self, centre: Codes, codes: Codes) -> usize {
@@ -48,6 +56,17 @@ impl Octant {
     }
 }
 
+/// What is so of a tie.
+#[derive(Clone, Copy, Debug, PartialEq, Eq, PartialOrd, Ord)]
+pub enum Kind {
+    /// The other sample came in before the one that is found, or after it.
+    Before,
+    After,
+    /// A search comes to the other child first, and the sample that is found has the closest colour of its own: a search
+    /// that left out a child which is exactly as far as what it has would lose it.
+    Barely,
+}
+
 /// A tie between two children of an octant that is split.
 #[derive(Clone, Copy, Debug, PartialEq, Eq, PartialOrd, Ord)]
 pub struct Siblings {
@@ -59,8 +78,7 @@ pub struct Siblings {
     /// The child of the sample that is found, and that of the other one.
     pub found: usize,
     pub other: usize,
-    /// The other sample came in before the one that is found.
-    pub later: bool,
+    pub kind: Kind,
 }
 
 /// How many queries found none, and how many found one of several that are as far.
@@ -143,7 +161,7 @@ impl Ties {
             turned |= split && octant.turn(centre, sample.codes) < octant.turn(centre, found.codes);
             planes[octant.planes(centre)] |= split;
             if split {
-                self.count_siblings(set, &octant, centre, [found, sample]);
+                self.keep_siblings(set, &octant, centre, [found, sample]);
             }
         }
         self.seen.apart += apart as usize;
@@ -157,18 +175,19 @@ impl Ties {
     }
 
     /// Keeps that the sample that was found and another are as far, in two children of an octant.
-    fn count_siblings(&mut self, set: &Bin, octant: &Octant, centre: Codes, two: [&Sample; 2]) {
+    fn keep_siblings(&mut self, set: &Bin, octant: &Octant, centre: Codes, two: [&Sample; 2]) {
         let [found, other] = two.map(|sample| octant.child(sample.codes));
+        let [turn, other_turn] = two.map(|sample| octant.turn(centre, sample.codes));
         let [row, other_row] = two.map(|sample| set.samples.iter().position(|one| one.tag == sample.tag));
-        let siblings = Siblings {
-            depth: octant.depth(),
-            way: octant.child(centre),
-            outside: !octant.holds(centre),
-            found,
-            other,
-            later: other_row < row,
-        };
-        self.met.insert(siblings);
+        let kinds = [
+            (Kind::Before, other_row < row),
+            (Kind::After, row < other_row),
+            (Kind::Barely, other_turn < turn && two[0].codes == octant.closest(found, centre)),
+        ];
+        let (depth, way, outside) = (octant.depth(), octant.child(centre), !octant.holds(centre));
+        for (kind, _) in kinds.into_iter().filter(|(_, is_so)| *is_so) {
+            self.met.insert(Siblings { depth, way, outside, found, other, kind });
+        }
         self.beside.insert((found, other, octant.planes(centre)));
     }
 
