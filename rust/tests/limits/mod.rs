@@ -29,11 +29,11 @@ fn holding<const BYTES: usize>(run: impl FnOnce()) {
     black_box(&held);
 }
 
-/// Runs in a thread that has some 4,000 bytes more than the 8,000 that the header says of a query: one that took more
+/// Runs in a thread that has some hundred bytes more than the 8,000 that the header says of a query: one that took more
 /// would end the test. A thread can't have less than 16,384, so part of its stack is held.
 pub fn in_stack_of_a_query(run: impl FnOnce() + Send + 'static) {
     const STACK: usize = 8_000;
-    const HELD: usize = 8_000;
+    const HELD: usize = 11_500;
     let thread = std::thread::Builder::new().stack_size(STACK + 16_384);
     thread.spawn(|| holding::<HELD>(run)).unwrap().join().unwrap();
 }
