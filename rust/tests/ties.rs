@@ -250,12 +250,12 @@ fn all_siblings(depth: u32) -> impl Iterator<Item = Siblings> {
     })
 }
 
-/// Whether there can be such a tie. No centre is outside the whole. In an octant of side 4, each colour of the child on
+/// Whether such a tie is sought: there can be one, and it is not too seldom. No centre is outside the whole. In an octant of side 4, each colour of the child on
 /// the way is closer to a centre outside than any of the child across from it; and from inside the closest of a child
 /// across one plane is not as far as one across the two others. In one of side 2, children are single colours; those
 /// that differ from the one on the way in as many channels can be as far. In all others there are some, somewhere; but of
 /// two children across from each other the closest colour of one is seldom as far from outside, and none is sought.
-fn can_tie(siblings: &Siblings) -> bool {
+fn is_sought(siblings: &Siblings) -> bool {
     let Siblings { depth, way, outside, found, other, kind } = *siblings;
     let turns = [way ^ found, way ^ other];
     let possible = match CODE_COUNT >> depth {
@@ -279,11 +279,12 @@ fn tie_of(siblings: &Siblings, bucket: u32, state: &mut u64) -> Option<(Codes, V
     Some((centre, crowd(pair, centre, &colours, bucket, state)))
 }
 
-/// Samples that are as far, in each two children of an octant, until each tie that can be was met, of each kind.
+/// Samples that are as far, in each two children of an octant, until each tie that is sought was met; it panics if one
+/// is not.
 fn siblings(ties: &mut Ties, depth: u32, bucket: u32, mut state: u64) {
     let state = &mut state;
     ties.met.clear();
-    for siblings in all_siblings(depth).filter(can_tie) {
+    for siblings in all_siblings(depth).filter(is_sought) {
         let mut tries = (0..10_000).filter_map(|_| tie_of(&siblings, bucket, state));
         while !ties.met.contains(&siblings) {
             let (centre, crowd) = tries.next().unwrap_or_else(|| panic!("no tie of {siblings:?}"));
@@ -292,15 +293,12 @@ fn siblings(ties: &mut Ties, depth: u32, bucket: u32, mut state: u64) {
     }
 }
 
-/// In octants of each depth, every tie that can be was met; and each two children had one with the centre beside none
+/// In octants of each depth every tie that is sought is met; and each two children have one with the centre beside none
 /// of the planes between the eight, beside one, two and three.
 fn each_two_siblings(bucket: u32, least: Seen) {
     let mut ties = Ties::default();
     for depth in 0..CODE_COUNT.trailing_zeros() {
         siblings(&mut ties, depth, bucket, (100 * depth + bucket) as u64);
-        for siblings in all_siblings(depth).filter(can_tie) {
-            assert!(ties.met.contains(&siblings), "{siblings:?}");
-        }
     }
     for ([found, other], planes) in pairs().flat_map(|pair| (0..4).map(move |planes| (pair, planes))) {
         assert!(ties.beside.contains(&(found, other, planes)), "children {found} and {other}, {planes} planes");

@@ -5,7 +5,7 @@ use Rattle.colour.specs.declared.Region.{Region}
 use Rattle.colour.specs.Octant.{children, child_low}
 use Rattle.colour.specs.Region.{overlaps}
 
--- A bit of a weight, where a test says yes.
+-- A bit of a weight, if a test says yes.
 unfoldable pub bit_if : Bool → ℕ → ℕ
 bit_if t w = elim t [ true ↦ w | false ↦ 0 ]
 

@@ -9,7 +9,7 @@ use Rattle.colour.specs.Octant.{bit_weight}
 use Rattle.colour.specs.Mask.{bit_if}
 use Rattle.colour.specs.Steps.{closest_square, halves_of, Small}
 
--- The child, of side s, of the octant at low that a colour lies in or is closest to: in each channel the upper half where the code is at the middle or past it.
+-- The child, of side s, of the octant at low that a colour lies in or is closest to: in each channel the upper half if the code is at the middle or past it.
 unfoldable pub closest_child : Colour → ℕ → Colour → ℕ
 closest_child c s low = sum_of (λ h. bit_if (leb (code_in h low + s) (code_in h c)) (bit_weight h))
 

@@ -21,7 +21,7 @@ unfoldable pub noes : Bool → ℕ
 noes true = 0
 noes false = 1
 
--- 0 where some of the s codes from low is in a box's codes from a to b, and 1 where none is.
+-- 0 if some of the s codes from low is in a box's codes from a to b, and 1 if none is.
 unfoldable pub missed : ℕ → ℕ → ℕ → ℕ → ℕ
 missed a b s low = noes (leb a (last_code s low) && leb low b)
 
@@ -30,7 +30,7 @@ unfoldable pub share : Region → Channel → ℕ → ℕ → ℕ
 share (Ball p r) h s low = closest_square (code_in h p.centre) s low
 share (Box a b) h s low = missed (code_in h a) (code_in h b) s low
 
--- An octant overlaps where its channels add up to less than this (`overlaps_shares` of proofs/Laws/Halves.antt).
+-- An octant overlaps if its channels add up to less than this (`overlaps_shares` of proofs/Laws/Halves.antt).
 unfoldable pub limit_of : Region → ℕ
 limit_of (Ball p r) = r * r
 limit_of (Box a b) = 1

@@ -14,7 +14,7 @@ pub mod span;
 
 ghost use Rattle.std.specs.Prelude.{◌≡◌, ◌+◌, ◌^◌, ◌<◌, ◌&&◌};
 ghost use Rattle.colour.specs.Channels.{Tried};
-ghost use Rattle.colour.specs.Colour.{wrapped, InRange};
+ghost use Rattle.colour.specs.Colour.{wrapped};
 
 // What is said of red, green and blue alike.
 #[derive(Clone, Copy, PartialEq, Eq)]

@@ -150,7 +150,7 @@ pub fn closest_squares(x: u16, split: Split) -> Halves
     }
 }
 
-// What they add for a box: 1 where none of a half's codes is in it.
+// What they add for a box: 1 if none of a half's codes is in it.
 #[tactic(auto, unfolding(crate::specs::Steps::missed, crate::specs::Steps::halves_of), using(crate::proofs::Laws::Halves::noes_byte, crate::proofs::Laws::Halves::noes_most))]
 fn misses(low: u32, high: u32, split: Split) -> Halves
     ensures is { result ≡ halves_of (missed low high) split.half split.low }

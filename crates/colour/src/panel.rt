@@ -137,7 +137,7 @@ fn at_most(low: Codes, high: Codes) -> bool
     low.zip(high).map(|(least, most)| least <= most).every()
 }
 
-// A probe at a centre, and a radius in codes.
+// A probe at a centre, and a radius in codes, or the refusal by 9.
 pub fn sphere_of(centre: PanelColour, radius: f32) -> Result<(Probe, u32), Refusal>
     ensures { result ≡ sphere_if (panel_good centre && radius_good radius) centre radius }
 {

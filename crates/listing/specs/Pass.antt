@@ -27,7 +27,7 @@ pub record Visit : Type 0 where
   pub tags : List ℕ
   pub after : Tally
 
--- Whether the sample in a row is listed: each is where its octant is taken whole; else it is measured. Words that are no codes are wrapped.
+-- Whether the sample in a row is listed: always if its octant is taken whole, and otherwise if the region holds it. Words that are no codes are wrapped.
 unfoldable pub takes : List ℕ → Region → Bool → ℕ → Bool
 takes ws R whole row = whole || holds R (wrapped (sample_in current ws row).colour)
 
@@ -45,11 +45,11 @@ unfoldable pub visiting : Bool → ℕ → Tally → Tally
 visiting whole n t =
     record { entered = t.entered; measured = measured_after whole t.measured n; next = t.next; visited = t.visited + n }
 
--- The tally where the octant in a row is entered.
+-- The tally once the octant in a row is entered.
 unfoldable pub tally_entering : ℕ → Tally → Tally
 tally_entering row t = record { entered = suc t.entered; measured = t.measured; next = suc row; visited = t.visited }
 
--- An octant's own samples: each is listed where the octant is taken whole, and else measured.
+-- An octant's own samples: all are listed if the octant is taken whole; otherwise each is measured, and listed if the region holds it.
 unfoldable pub own_samples : List ℕ → List ℕ → Region → Bool → ℕ → Tally → Visit
 own_samples ws os R whole row t =
     record { tags = tags_of ws R whole (own_rows ws os row t.visited); after = visiting whole (length (own_rows ws os row t.visited)) t }
@@ -97,7 +97,7 @@ visit_of ws os R (suc j) row low t =
 unfoldable pub no_tally : Tally
 no_tally = record { entered = 0; measured = 0; next = 0; visited = 0 }
 
--- The whole pass: the root in row 0 is entered where it overlaps and is there.
+-- The whole pass: the root in row 0 is entered if it overlaps and is there.
 unfoldable pub pass_of : List ℕ → List ℕ → Region → Visit
 pass_of ws os R =
     elim (enters os R (2 ^ depths) black 0 no_tally) [ true ↦ visit_of ws os R depths 0 black no_tally | false ↦ nothing no_tally ]

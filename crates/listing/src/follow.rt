@@ -16,8 +16,8 @@ pub struct Run {
     pub seen: u32,
 }
 
-// Whether the sample in a row is listed: each is where its octant is taken whole; else it is measured. (`whole` is no
-// Option of a region: the octant is passed and counted by it also where no sample is measured.)
+// Whether the sample in a row is listed: always if its octant is taken whole, and otherwise if the region holds it. (`whole` is no
+// Option of a region: the octant is passed and counted by it also if no sample is measured.)
 #[tactic(auto, unfolding(crate::specs::Pass::takes, words::specs::Rows::sample_in))]
 fn takes(samples: &[u32], region: Region, whole: bool, row: usize) -> bool
     requires { row < sample_rows current (length samples.now) }

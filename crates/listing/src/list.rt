@@ -52,7 +52,7 @@ fn write(tables: &Tables<'_>, region: Region, listing: &mut [u32]) -> Counts
 }
 
 // Question 13, and the listing. A listing as long as the samples that a pass may visit holds all, so that one pass does; else it is counted
-// first, and nothing is written where it is too short.
+// first, and nothing is written if it is too short.
 #[tactic(auto, using(crate::proofs::Laws::Answers::Answered::tags_budget, crate::proofs::Laws::Answers::Listing::no_room))]
 pub fn list(tables: &Tables<'_>, region: Region, listing: &mut [u32]) -> Result<Counts, Refusal>
     ensures { listed_answer result listing.new

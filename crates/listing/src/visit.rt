@@ -77,7 +77,7 @@ fn visit(
     }
 }
 
-// A whole pass, with a fresh tally: the root is entered where it is there and overlaps.
+// A whole pass, with a fresh tally: the root is entered if it is there and overlaps.
 pub fn pass(tables: &Tables<'_>, region: &Region, listing: &mut [u32], tally: &mut Tally)
     requires blank { tally.old ≡ tally_of 0 no_tally }
     ensures visited { Visited

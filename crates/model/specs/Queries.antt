@@ -35,7 +35,7 @@ total_counts f n = record { entered = total (λ k. (f k).entered) n; measured = 
 unfoldable pub measure_all : List Placed → Counts
 measure_all xs = record { entered = 0; measured = length xs }
 
--- An octant, of side s at low, that holds xs: where it is in the tree and overlaps it is entered; then it is taken whole if it is inside,
+-- An octant, of side s at low, that holds xs: if it is in the tree and overlaps it is entered; then it is taken whole if it is inside,
 -- and else what is below it counts.
 unfoldable pub enter : Region → ℕ → Colour → List Placed → Counts → Counts
 enter R s low [] below = no_counts

@@ -1,4 +1,4 @@
--- What the proofs of nearest by path cite.
+-- What the proofs of nearest cite.
 pub mod Closer
 pub mod Measuring
 pub mod Starting

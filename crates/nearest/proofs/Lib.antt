@@ -1,2 +1,2 @@
--- Laws and proofs of nearest by path.
+-- Laws and proofs of nearest.
 pub mod Laws

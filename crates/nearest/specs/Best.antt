@@ -16,11 +16,11 @@ pub record Kept : Type 0 where
   pub octant : ℕ
   pub row : ℕ
 
--- Whether what is d² away, in the octant in a row, comes before it: it is closer, or as close in a lower octant row.
+-- Whether a sample at d², in an octant row, comes before what is kept: it is closer, or as close in a lower octant row.
 unfoldable pub closer : Kept → ℕ → ℕ → Bool
 closer kept d octant = elim (eqb d kept.distance) [ true ↦ ltb octant kept.octant | false ↦ ltb d kept.distance ]
 
--- What is kept, once the sample in a row, of an octant, is measured.
+-- What is kept once a sample at d² is measured, by its octant's row and its own.
 unfoldable pub taken : Kept → ℕ → ℕ → ℕ → Kept
 taken kept d octant row =
     elim (closer kept d octant) [ true ↦ record { distance = d; octant = octant; row = row } | false ↦ kept ]
@@ -29,7 +29,7 @@ taken kept d octant row =
 unfoldable pub rank_of : List ℕ → Probe → ℕ → ℕ
 rank_of ws p row = distance p (wrapped (sample_in current ws row).colour) * 4096 + row
 
--- The least of a rank and those of rows.
+-- The least of a rank and the ranks of the samples in some rows.
 unfoldable pub least_from : List ℕ → Probe → ℕ → List ℕ → ℕ
 least_from ws p rank [] = rank
 least_from ws p rank (row ∷ rows) = least_from ws p (min rank (rank_of ws p row)) rows
@@ -47,8 +47,8 @@ least_rank ws p (row ∷ rows) = least_from ws p (rank_of ws p row) rows
 unfoldable pub taken_rank : Kept → ℕ → ℕ → Kept
 taken_rank kept octant rank = taken kept (rank / 4096) octant (rank % 4096)
 
--- What is kept, once the samples in rows, of an octant, are measured: the one of the least rank is taken. If there are no rows nothing is: no limit r² is
--- as far as top_rank says.
+-- What is kept once the samples in some rows, of an octant, are measured: the one of the least rank is taken. If there are no rows, nothing is taken:
+-- top_rank says a d² of 2^52 - 1, and no query has an r² that is as much.
 unfoldable pub own_best : List ℕ → Probe → Kept → ℕ → List ℕ → Kept
 own_best ws p kept octant rows = taken_rank kept octant (least_rank ws p rows)
 
@@ -80,7 +80,7 @@ found_of ws limit k = elim (ltb k.distance limit) [ true ↦ Some (best_of ws k)
 unfoldable pub best_found : List ℕ → List ℕ → Probe → ℕ → Option Best
 best_found ws os p r = found_of ws (r * r) (search_best ws os p r).kept
 
--- The answer by that: its tag and d², else none with both 0. `left` is the listing as it is left.
+-- The answer by that: its tag and d², otherwise none, with both 0. `left` is the listing as it is left.
 unfoldable pub answer_of : Option Best → List ℕ → Answer
 answer_of (Some best) left = nearest_answer 0 true best.tag best.distance left
 answer_of None left = nearest_answer 0 false 0 0 left

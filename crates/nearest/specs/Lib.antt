@@ -1,3 +1,3 @@
--- Nearest by path, over any words of the tables.
+-- What nearest finds, over any words of the tables.
 pub mod Best
 pub mod Steps

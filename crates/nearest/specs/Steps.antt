@@ -1,4 +1,4 @@
--- What the functions under nearest by path ask and promise. No call's own promise cites these.
+-- What the functions of the search promise. No call's own promise cites these.
 use Rattle.std.specs.Prelude.{ℕ, ◌+◌}
 use Rattle.traversal.specs.Search.{Searching}
 use Rattle.nearest.specs.declared.best.Search.{Search}

@@ -22,7 +22,7 @@ fn rank(samples: &[u32], p: Probe, row: usize) -> u64
     squared(p, wrapped(colour_of(samples, row))) * 4096 + (row as u64)
 }
 
-// An entered octant's own samples: the least rank needs no branch. (Of none it is the greatest number, so that the first needs no case. `SearchReady` is of
+// An entered octant's own samples: the least rank needs no branch. (It starts at the greatest number, so that the first sample is no case of its own. `SearchReady` is of
 // tables and search, and so is a field of neither.)
 pub fn own(tables: &Tables<'_>, p: Probe, octant: u32, search: &mut Search)
     requires ready { SearchReady tables.now.samples.now tables.now.octants.now (search_in search.old) }

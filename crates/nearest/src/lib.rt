@@ -1,4 +1,4 @@
-// Nearest over the tables, by path. Nothing in the tables is trusted: on any words at all a search ends within what it is lent.
+// Nearest over the tables. Nothing in them is trusted: on any words at all a search ends within what it is lent.
 #![tactic(auto)]
 
 pub mod best;

@@ -1,6 +1,6 @@
 // The search: it recurses through octants, the depth left falling, and takes the closest child first. Its siblings are looked at once it is done: most are
 // then too far.
-ghost use Rattle.std.specs.Prelude.{◌*◌, ◌≤◌, ◌<◌, ◌≡◌};
+ghost use Rattle.std.specs.Prelude.{◌<◌, ◌≡◌};
 ghost use Rattle.model.specs.Layout.{current};
 ghost use Rattle.words.specs.Rows.{octant_limit};
 ghost use Rattle.traversal.specs.Steps.{SearchReady};
@@ -77,7 +77,7 @@ fn visit(tables: &Tables<'_>, p: Probe, row: u32, spot: Spot, search: &mut Searc
 }
 
 // What is found, with its tag: nothing, if the closest is still at the limit. The row is tested before it is read.
-fn best_of(samples: &[u32], search: &Search, limit: u64) -> Option<Best>
+fn found_of(samples: &[u32], search: &Search, limit: u64) -> Option<Best>
     ensures { result ≡ found_of samples.now limit (search_in search.now).kept }
 {
     if limit <= search.distance {
@@ -108,5 +108,5 @@ pub fn nearest(tables: &Tables<'_>, p: Probe, radius: u32) -> Option<Best>
     if 0 < tables.octant_limit() {
         visit(tables, p, 0, root_spot(p), &mut search);
     }
-    best_of(tables.samples, &search, limit)
+    found_of(tables.samples, &search, limit)
 }

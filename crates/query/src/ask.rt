@@ -1,4 +1,4 @@
-// Ball, box and nearest, by the one entry that takes a query apart.
+// Ball and box, by the one entry that takes a query apart; that entry; and nearest, which asks the same questions itself.
 ghost use Rattle.std.specs.Prelude.{true, false, List, ◌≡◌, ℕ};
 ghost use Rattle.model.specs.Tables.{tables_read};
 ghost use Rattle.model.specs.Meets.{lists};

@@ -54,7 +54,7 @@ pub record SmallSquares (v : Squares) : Type 0 where
   pub green : v.green ≤ 4294967296
   pub blue : v.blue ≤ 4294967296
 
--- Each near square is at most the far one, and these are at most that.
+-- Each near square is at most the far one, and the far ones are at most 65,536².
 pub record NearFar (near far : Squares) : Type 0 where
   pub red : near.red ≤ far.red
   pub green : near.green ≤ far.green

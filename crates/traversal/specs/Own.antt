@@ -14,7 +14,7 @@ rows_from ws (suc n) row =
 unfoldable pub own_most : List ℕ → List ℕ → ℕ → ℕ → ℕ
 own_most ws os row visited = min (octant_field current os row Count) (sample_budget current ws - visited)
 
--- The octant's own samples, by the next words from its first on, where so many were visited before.
+-- The octant's own samples, by the next words from its first on, once so many were visited.
 unfoldable pub own_rows : List ℕ → List ℕ → ℕ → ℕ → List ℕ
 own_rows ws os row visited = rows_from ws (own_most ws os row visited) (octant_field current os row First)
 

@@ -1,7 +1,7 @@
 -- The children in a mask, in the order in which a traversal takes them.
 use Rattle.std.specs.Prelude.{ℕ, zero, suc, ◌/◌, ◌%◌, List, [], ◌∷◌}
 
--- A place before others, where its binary digit is not 0.
+-- A place before others, if its binary digit is not 0.
 unfoldable pub place_if : ℕ → ℕ → List ℕ → List ℕ
 place_if zero p ps = ps
 place_if (suc b) p ps = p ∷ ps

@@ -1,4 +1,4 @@
--- A search by path goes down through the closest child, and looks at its siblings on the way back. Here is where it stands, as the functions have it: an
+-- A search goes down through the closest child, and looks at its siblings on the way back. Here is where it stands, as the functions have it: an
 -- octant's cube, and what each of its channels adds to its closest d². No call's own promise cites these.
 use Rattle.std.specs.Prelude.{ℕ, zero, suc, ◌-◌, ◌^◌, ◌<◌, List, ◌≡◌}
 use Rattle.colour.specs.declared.Cube.{Cube}

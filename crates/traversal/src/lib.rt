@@ -1,4 +1,4 @@
-// What every traversal of the tables asks of an octant, and the octants that a search by path goes through. Nothing in the tables is trusted.
+// What every traversal of the tables asks of an octant, and the octants that a search goes through. Nothing in the tables is trusted.
 #![tactic(auto)]
 
 pub mod children;

@@ -1,6 +1,6 @@
 // How far the children of an octant are from a probe, channel by channel. A probe lies in, or is closest to, one half of each channel: that half is as
 // far as the whole octant, and the other, the far half, lies across the middle. So the eight children share six squares, and three are the octant's own.
-ghost use Rattle.std.specs.Prelude.{suc, ◌+◌, ◌<◌, ◌≤◌, ◌≡◌, leb};
+ghost use Rattle.std.specs.Prelude.{◌+◌, ◌<◌, ◌≤◌, ◌≡◌, leb};
 ghost use Rattle.colour.specs.Mask.{bit_if};
 ghost use Rattle.traversal.specs.Nearby.{far_square, far_of, turned_by, turn_mask, NearFar};
 
@@ -50,8 +50,8 @@ pub fn turned(near: Squares, far: Squares, m: u32) -> Squares
     }
 }
 
-// The weight if three squares add up to no more than the most, else 0. (Not one with the bits of `colour::overlap`: a limit one past the most may not fit
-// 64 bits, and of eight children one is left out; a shared mask would be lent the sum, the test and the first child.)
+// The weight if three squares add up to no more than the most, else 0. (`colour::overlap` has a mask of its own: there a sum must be below a limit, and
+// here one past the most may not fit 64 bits; here turn 0 is left out. One function for both would be lent the sum, the test and the first child.)
 fn within(red: u64, green: u64, blue: u64, most: u64, weight: u32) -> u32
     requires { (red ≤ 4294967296) × ((green ≤ 4294967296) × (blue ≤ 4294967296)) }
     ensures is { result ≡ bit_if (leb (red + green + blue) most) weight }

@@ -1,4 +1,4 @@
-// Where a search by path stands, and its ways on. What an octant's channels add to its closest d² is handed down: the closest child adds as much, and
+// Where a search stands, and its ways on. What an octant's channels add to its closest d² is handed down: the closest child adds as much, and
 // each of its siblings adds what the far halves do in some channels.
 ghost use Rattle.std.specs.Prelude.{◌<◌, ◌≡◌};
 ghost use Rattle.colour.specs.Octant.{root_cube, Within};
@@ -49,7 +49,7 @@ pub fn fork_of(p: Probe, cube: Cube) -> Fork
     }
 }
 
-// A split octant that a search by path goes through: what distances are measured from, where the search stands, and its ways on.
+// A split octant that a search goes through: what distances are measured from, where the search stands, and its ways on.
 #[derive(Clone, Copy)]
 pub struct Crossing {
     pub probe: Probe,

@@ -25,8 +25,8 @@ pub fn lone_pairs() -> Vec<Words> {
     corners().map(|corner| exact(&tagged(pair(corner)), 1).tables()).collect()
 }
 
-/// Words that are no sound tables: one sample, and octant rows with these children, each of which says that it has as many
-/// samples as a word can say, from this one on. So it is measured in octants of a single colour alone.
+/// One sample, and octant rows with these children. Each row says that it has as many samples as a word can say, from
+/// that one on, so it is measured at the last depth alone. These are no sound tables.
 fn leading(rows: usize, children: impl Fn(usize) -> [u32; 8]) -> Words {
     let samples = [&sample_header(1, 1)[..], &sample_row(1, [MOST_CODE; 3], 0)].concat();
     let row = |row: usize| octant_row(0, 0, u32::MAX, children(row));

@@ -29,7 +29,7 @@ fn holding<const BYTES: usize>(run: impl FnOnce()) {
     black_box(&held);
 }
 
-/// Runs in a thread that has some hundred bytes more than the 8,000 that the header says of a query: one that took more
+/// Runs in a thread that has a few hundred bytes more than the 8,000 that the header says of a query: one that took more
 /// would end the test. A thread can't have less than 16,384, so part of its stack is held.
 pub fn in_stack_of_a_query(run: impl FnOnce() + Send + 'static) {
     const STACK: usize = 8_000;

@@ -88,13 +88,13 @@ pub struct Seen {
     pub none: usize,
     /// One as far is in another octant.
     pub apart: usize,
-    /// Of these, a search comes to that one before the one that is found, which is before it in the order.
+    /// Of those apart, a search comes to that one before the one that is found, which is before it in the order.
     pub turned: usize,
-    /// Of these, the centre is beside one of the planes between the children; and beside two, and all three.
+    /// Of those apart, the centre is beside one of the planes between the children; and beside two, and all three.
     pub plane: usize,
     pub edge: usize,
     pub corner: usize,
-    /// Of these, the centre is outside the smallest octant that holds the whole set.
+    /// Of those apart, the centre is outside the smallest octant that holds the whole set.
     pub beyond: usize,
     /// One as far, of another colour, is in the same octant.
     pub together: usize,

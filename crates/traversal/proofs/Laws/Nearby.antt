@@ -265,7 +265,7 @@ module _ (most : ℕ) (near far : Squares) where
   unfolding turn_mask turn_within mask_of children bit_if sum_by sum_of turned_by squares_by square_in by_bit bit_weight
   turn_bits = simp zero-add
 
-  -- None, where even the closest far half is past it.
+  -- None, if even the closest far half is past it.
   pub turns_none : (rise : ℕ) → NearFar near far → rise ≤ far.red - near.red → rise ≤ far.green - near.green → rise ≤ far.blue - near.blue
       → most < near.red + near.green + near.blue + rise → 0 ≡ turn_mask most near far
   turns_none rise r a b c l =

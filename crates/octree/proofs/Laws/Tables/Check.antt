@@ -22,7 +22,7 @@ use Rattle.model.proofs.Tables.Size.{sample_words_length}
 use Rattle.model.proofs.Tables.Unique as unique
 use Rattle.words.specs.Rows.{sample_start, settings_in, count_in, samples_from, set_of}
 use Rattle.words.proofs.Laws.Layout.Samples.{samples_length}
-use Rattle.octree.specs.Steps.{Headed, Holds}
+use Rattle.octree.specs.Steps.{Holds}
 use Rattle.octree.proofs.Laws.Tables.Reading.{count_read, settings_read, samples_read}
 
 -- A word among zeros, or after them.

@@ -1,4 +1,4 @@
--- On sound tables a turn of a child measures all its samples, or leaves them out where none of them comes before what is kept.
+-- On sound tables a turn of a child measures all its samples, or leaves them out if none of them comes before what is kept.
 use Prim.Native.Nat.{ℕ, suc, ◌+◌, ◌^◌, ◌≤◌, ◌<◌}
 use mathlib.Core.Bool.{Bool, true, false}
 use mathlib.Core.List.{List, [], ◌∷◌}

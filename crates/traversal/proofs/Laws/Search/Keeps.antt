@@ -35,7 +35,7 @@ module _ {S : Type 0} (K : Store S) (ws os : List ℕ) (p : Probe) (I : Searchin
   turns_keep F h zero s i = i
   turns_keep F h (suc n) s i = h n (in_turn F n s) (turns_keep F h n s i)
 
-  -- A child that is entered, or not, keeps it, where a search below does.
+  -- A child that is entered, or not, keeps it, if a search below does.
   child_keeps : (below : ℕ → Colour → Searching S → Searching S) (side row : ℕ) (low : Colour)
       → ((at : ℕ) (l : Colour) (u : Searching S) → u.entered < limit → I u → I (below at l u))
       → (k : ℕ) (u : Searching S) → I u → I (child_search K os p below side row low k u)

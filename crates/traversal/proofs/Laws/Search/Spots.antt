@@ -1,4 +1,4 @@
--- The octants that a search by path goes through, as the functions have them: what is known of a child, and what its turn comes to.
+-- The octants that a search goes through, as the functions have them: what is known of a child, and what its turn comes to.
 use Prim.Native.Nat.{ℕ, zero, suc, ◌+◌, ◌-◌, ◌^◌, ◌≤◌, ◌<◌}
 use mathlib.Core.Bool.{Bool, true, false, true≢false}
 use mathlib.Core.List.{List}

@@ -11,7 +11,7 @@ use Rattle.colour.specs.Colour.{black}
 use Rattle.colour.specs.Octant.{depths, children, child_low}
 use Rattle.model.specs.Lists.{joined}
 use Rattle.model.specs.SampleSet.{Placed, placed, part, splits, order_of, octants_of, order, octants}
-use Rattle.model.specs.Layout.{Child, Count, current, sample_rows}
+use Rattle.model.specs.Layout.{Count, current, sample_rows}
 use Rattle.model.specs.Tables.{pair, child_row, row_or_none, octant_word}
 use Rattle.model.specs.Machine.{Machine}
 use Rattle.model.specs.Sound.{Shows}

@@ -1,4 +1,4 @@
--- `visit::best_of`: by whether it is closer than the limit, and whether the row is one of the table's.
+-- `visit::found_of`: by whether it is closer than the limit, and whether the row is one of the table's.
 use native.Mathlib.Omega.{arith}
 use borrow.Author.Tests.{lt-ltb, le-ltb}
 use lib.ListN.{length}
@@ -7,7 +7,7 @@ use Rattle.words.specs.Rows.{sample_in}
 use Rattle.nearest.specs.Best.{best_of}
 use Rattle.nearest.specs.Steps.{search_in}
 use Rattle.nearest.proofs.Laws.Limits.{found_near, found_none}
-use Rattle.nearest.proofs.visit.best_of.Goals as goal
+use Rattle.nearest.proofs.visit.found_of.Goals as goal
 
 pub returns-then-limit-search : goal.returns-then-limit-search
 returns-then-limit-search c = found_none _ _ _ c.if-limit-search.true
