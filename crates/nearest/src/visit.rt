@@ -19,61 +19,73 @@ use traversal::spot::{Crossing, Spot, root_spot};
 use words::layout::{sample_rows, tag as tag_of};
 use words::tables::Tables;
 
+// What is asked: the tables, what distances are measured from, and the rows below which an octant may be entered, which are worked out once. It is lent down
+// the recursion: each call hands on one address.
+#[derive(Clone, Copy)]
+struct Asked<'a> {
+    tables: Tables<'a>,
+    probe: Probe,
+    limit: u32,
+    ghost limit_is: { limit ≡ octant_limit current tables.octants.now },
+}
+
 // The siblings of the closest child, in turn: those that are still close enough.
 #[cycle(siblings_split_visit)]
-fn siblings(tables: &Tables<'_>, row: u32, at: Crossing, search: &mut Search)
-    requires row_bound { row < octant_limit current tables.now.octants.now }
-    requires ready { SearchReady tables.now.samples.now tables.now.octants.now (search_in search.old) }
+fn siblings(asked: &Asked<'_>, row: u32, at: Crossing, search: &mut Search)
+    requires same { at.probe ≡ asked.now.probe }
+    requires row_bound { row < octant_limit current asked.now.tables.octants.now }
+    requires ready { SearchReady asked.now.tables.samples.now asked.now.tables.octants.now (search_in search.old) }
     ensures { search.new
         ≡ search_after
-        (siblings_at (bests tables.now.samples.now at.probe) tables.now.samples.now tables.now.octants.now at.probe row at.spot)
+        (siblings_at (bests asked.now.tables.samples.now at.probe) asked.now.tables.samples.now asked.now.tables.octants.now at.probe row at.spot)
         search.old }
 {
     let far = at.far();
-    let limit = tables.octant_limit();
     for turn in children_in(turns(search.distance, at.spot.near, far)) {
-        let next = child_at(tables.octants, row, at.fork.first ^ turn);
-        let to = at.sibling(far, turn);
-        if search.reaches(next, limit, to.near.sum()) {
-            visit(tables, at.probe, next, to, search);
+        let next = child_at(asked.tables.octants, row, at.fork.first ^ turn);
+        let near = at.sibling_near(far, turn);
+        if search.reaches(next, asked.limit, near.sum()) {
+            visit(asked, next, at.sibling(near, turn), search);
         }
     }
 }
 
 // A split octant: the closest child, and then its siblings. (In a function of its own: in `visit`, what is handed on would be copied in pieces.)
 #[cycle(siblings_split_visit)]
-fn split(tables: &Tables<'_>, row: u32, at: Crossing, search: &mut Search)
-    requires row_bound { row < octant_limit current tables.now.octants.now }
-    requires ready { SearchReady tables.now.samples.now tables.now.octants.now (search_in search.old) }
+fn split(asked: &Asked<'_>, row: u32, at: Crossing, search: &mut Search)
+    requires same { at.probe ≡ asked.now.probe }
+    requires row_bound { row < octant_limit current asked.now.tables.octants.now }
+    requires ready { SearchReady asked.now.tables.samples.now asked.now.tables.octants.now (search_in search.old) }
     ensures { search.new
         ≡ search_after
-        (split_at (bests tables.now.samples.now at.probe) tables.now.samples.now tables.now.octants.now at.probe row at.spot)
+        (split_at (bests asked.now.tables.samples.now at.probe) asked.now.tables.samples.now asked.now.tables.octants.now at.probe row at.spot)
         search.old }
 {
-    let next = child_at(tables.octants, row, at.fork.first);
+    let next = child_at(asked.tables.octants, row, at.fork.first);
     let to = at.closest();
-    if search.reaches(next, tables.octant_limit(), to.near.sum()) {
-        visit(tables, at.probe, next, to, search);
+    if search.reaches(next, asked.limit, to.near.sum()) {
+        visit(asked, next, to, search);
     }
-    siblings(tables, row, at, search);
+    siblings(asked, row, at, search);
 }
 
 // Enters the octant in a row: its own samples are measured, or its children are searched.
 #[cycle(siblings_split_visit)]
-fn visit(tables: &Tables<'_>, p: Probe, row: u32, spot: Spot, search: &mut Search)
-    requires stood { (Stood p spot) × (row < octant_limit current tables.now.octants.now) }
-    requires ready { SearchReady tables.now.samples.now tables.now.octants.now (search_in search.old) }
-    requires search_bound { search.old.entered < octant_limit current tables.now.octants.now }
+fn visit(asked: &Asked<'_>, row: u32, spot: Spot, search: &mut Search)
+    requires stood { (Stood asked.now.probe spot) × (row < octant_limit current asked.now.tables.octants.now) }
+    requires ready { SearchReady asked.now.tables.samples.now asked.now.tables.octants.now (search_in search.old) }
+    requires search_bound { search.old.entered < octant_limit current asked.now.tables.octants.now }
     ensures { search.new
-        ≡ search_after (search_at (bests tables.now.samples.now p) tables.now.samples.now tables.now.octants.now p row spot)
+        ≡ search_after
+        (search_at (bests asked.now.tables.samples.now asked.now.probe) asked.now.tables.samples.now asked.now.tables.octants.now asked.now.probe row spot)
         search.old }
 {
     search.enter();
-    if ends(tables, false, spot.cube.depth, row) {
-        own(tables, p, row, search);
+    if ends(&asked.tables, false, spot.cube.depth, row) {
+        own(&asked.tables, asked.probe, row, search);
         return;
     }
-    split(tables, row, Crossing::new(p, spot), search);
+    split(asked, row, Crossing::new(asked.probe, spot), search);
 }
 
 // What is found, with its tag: nothing, if the closest is still at the limit. The row is tested before it is read.
@@ -103,10 +115,16 @@ fn found_of(samples: &[u32], search: &Search, limit: u64) -> Option<Best>
 pub fn nearest(tables: &Tables<'_>, p: Probe, radius: u32) -> Option<Best>
     ensures { result ≡ best_found tables.now.samples.now tables.now.octants.now p radius }
 {
-    let limit = square(radius);
-    let mut search = Search::new(limit);
-    if 0 < tables.octant_limit() {
-        visit(tables, p, 0, root_spot(p), &mut search);
+    let most = square(radius);
+    let mut search = Search::new(most);
+    let limit = tables.octant_limit();
+    if 0 < limit {
+        let asked = Asked {
+            tables: *tables,
+            probe: p,
+            limit,
+        };
+        visit(&asked, 0, root_spot(p), &mut search);
     }
-    found_of(tables.samples, &search, limit)
+    found_of(tables.samples, &search, most)
 }

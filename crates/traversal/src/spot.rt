@@ -104,16 +104,25 @@ impl Crossing {
         }
     }
 
-    // The sibling of turn m, which lies in the far halves of the channels of the bits of m.
-    #[tactic(auto, using(crate::proofs::Laws::Search::Spots::kid_turn, crate::proofs::Laws::Search::Spots::spot_is, crate::proofs::Laws::Search::Spots::turned_near))]
-    pub fn sibling(self, far: Squares, m: u32) -> Spot
+    // What the sibling of turn m adds, which lies in the far halves of the channels of the bits of m. (Its cube is worked out only if it is entered.)
+    #[tactic(auto, using(crate::proofs::Laws::Search::Spots::turned_near))]
+    pub fn sibling_near(self, far: Squares, m: u32) -> Squares
         requires { far ≡ far_of self.probe self.fork.half self.spot.cube.low }
+        ensures { result ≡ (turn_spot self.probe self.spot m).near }
+    {
+        turned(self.spot.near, far, m)
+    }
+
+    // That sibling.
+    #[tactic(auto, using(crate::proofs::Laws::Search::Spots::kid_turn, crate::proofs::Laws::Search::Spots::spot_is))]
+    pub fn sibling(self, near: Squares, m: u32) -> Spot
+        requires { near ≡ (turn_spot self.probe self.spot m).near }
         ensures { result ≡ turn_spot self.probe self.spot m }
     {
         let k = self.fork.first ^ m;
         Spot {
             cube: child(self.parent(), k),
-            near: turned(self.spot.near, far, m),
+            near,
         }
     }
 }

@@ -55,6 +55,14 @@ pub far_no : (x middle : ℕ) → x < middle → far_gap x middle ≡ middle - x
 unfolding far_gap
 far_no x middle h = rw (lt-leb middle x h, far_gap)
 
+-- Both at once: one of the two differences is 0.
+pub far_apart : (x middle : ℕ) → (x + 1 - middle) + (middle - x) ≡ far_gap x middle
+far_apart x middle = go (leb middle x) refl
+  where
+    go : (t : Bool) → leb middle x ≡ t → (x + 1 - middle) + (middle - x) ≡ far_gap x middle
+    go true f = let h : middle ≤ x = leb-true middle x f in rw (far_yes x middle h) (omega arith)
+    go false f = let h : x < middle = leb-false middle x f in rw (far_no x middle h) (omega arith)
+
 -- The bit of the half that a code is in or closer to.
 unfoldable near_bit : ℕ → ℕ → ℕ
 near_bit x middle = bit_if (leb middle x) 1
@@ -266,9 +274,8 @@ module _ (most : ℕ) (near far : Squares) where
   turn_bits = simp zero-add
 
   -- None, if even the closest far half is past it.
-  pub turns_none : (rise : ℕ) → NearFar near far → rise ≤ far.red - near.red → rise ≤ far.green - near.green → rise ≤ far.blue - near.blue
-      → most < near.red + near.green + near.blue + rise → 0 ≡ turn_mask most near far
-  turns_none rise r a b c l =
+  pub turns_none : (least : ℕ) → least ≤ far.red → least ≤ far.green → least ≤ far.blue → most < least → 0 ≡ turn_mask most near far
+  turns_none least a b c l =
       let no : (n w : ℕ) → most < n → 0 ≡ bit_if (leb n most) w = λ n w h. bit_no w (lt-leb n most h) in
       omega (
         arith,

@@ -1,16 +1,17 @@
 -- `panel::code_of`: each return is a law of Floats.Fields at the float's bits.
-use mathlib.Core.Path.{◌≡◌, sym, ap, ◌∙◌, subst}
-use mathlib.Core.Bool.{false, not, true≢false}
-use Prim.Native.Nat.{ℕ, ◌+◌, ◌/◌, ◌^◌, ◌-◌, ◌<◌}
+use mathlib.Core.Path.{◌≡◌, refl, sym, ap, ◌∙◌, subst}
+use mathlib.Core.Bool.{Bool, true, false, not, true≢false}
+use Prim.Native.Nat.{ℕ, ◌+◌, ◌/◌, ◌^◌, ◌-◌, ◌≤◌}
 use native.Mathlib.Omega.{arith}
 use lib.Bits.{and_mask}
-use lib.Dec.{T}
+use borrow.Author.Tests.{ltb-true, ltb-false}
+use lib.Dec.{T, ltb}
 use lib.Ieee.{Float, nan, inf, fin, binary32, fits, is_nan, ne, to_bits}
 use lib.Ieee.Compare.{differs_from_itself, nan_differs}
 use Rattle.colour.specs.Panel.{below, answer_if}
 use Rattle.std.specs.Prelude.{Some, None}
 use Rattle.colour.proofs.Floats.Value.{coded}
-use Rattle.colour.proofs.Floats.Fields.{bits_lt, minus_zero, negative, too_high, too_low, between}
+use Rattle.colour.proofs.Floats.Fields.{minus_zero, negative, too_high, too_low, between}
 use Rattle.colour.proofs.panel.code_of.Goals as goal
 use Rattle.colour.proofs.panel.code_of.Goals.{Start}
 
@@ -28,11 +29,12 @@ no_nan (inf s) e = tt
 no_nan (fin s m e) h = tt
 
 -- What the top bit says.
-above : (b : ℕ) → (b ≡ 2147483648 → ⊥) → b / 2147483648 ≡ 1 → 2147483648 < b
-above b n e = omega arith
-
-under : (b : ℕ) → b < 4294967296 → (b / 2147483648 ≡ 1 → ⊥) → b < 2147483648
-under b h n = omega arith
+refused : (x : Float) → T (fits binary32 x) → (l : ℕ) → (to_bits binary32 x ≡ 2147483648 → ⊥) → 127 + l ≤ to_bits binary32 x / 8388608 → coded (2 ^ l) x ≡ None
+refused x h l n e = go (ltb (to_bits binary32 x) 2147483648) refl
+  where
+    go : (t : Bool) → ltb (to_bits binary32 x) 2147483648 ≡ t → coded (2 ^ l) x ≡ None
+    go true f = too_high x h l (ltb-true _ _ f) e
+    go false f = negative x h (2 ^ l) (omega (arith, ltb-false _ _ f, n))
 
 pub returns-then-v : goal.returns-then-v
 returns-then-v c =
@@ -46,13 +48,9 @@ pub returns-then-bits : goal.returns-then-bits
 returns-then-bits c =
     sym (minus_zero c.args.v (held (goal.at.returns-then-bits c).Start) c.if-bits.true c.args.twos)
 
-pub returns-then-sign-eq1 : goal.returns-then-sign-eq1
-returns-then-sign-eq1 c =
-    sym (negative c.args.v (held (goal.at.returns-then-sign-eq1 c).Start) _ (above _ c.if-bits.false c.if-sign-eq1.true))
-
 pub returns-then-exponent-twos : goal.returns-then-exponent-twos
 returns-then-exponent-twos c =
-    sym (too_high c.args.v (held (goal.at.returns-then-exponent-twos c).Start) c.args.twos (under _ (bits_lt c.args.v (held (goal.at.returns-then-exponent-twos c).Start)) c.if-sign-eq1.false) (omega arith))
+    sym (refused c.args.v (held (goal.at.returns-then-exponent-twos c).Start) c.args.twos c.if-bits.false (omega arith))
 
 pub returns-then-exponent-lt111 : goal.returns-then-exponent-lt111
 returns-then-exponent-lt111 c =

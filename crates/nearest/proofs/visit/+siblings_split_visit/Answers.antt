@@ -2,19 +2,19 @@
 -- definition's.
 use Prim.Native.Nat.{ℕ}
 use mathlib.Core.List.{List}
-use mathlib.Core.Path.{◌≡◌, sym, ap, ap₂, ◌∙◌, subst}
+use mathlib.Core.Path.{◌≡◌, refl, sym, ap, ap₂, ◌∙◌, subst}
 use native.Mathlib.Omega.{arith}
 use Rattle.colour.specs.declared.Probe.{Probe}
 use Rattle.colour.specs.Octant.{depths}
 use Rattle.traversal.specs.Squares.{Squares}
 use Rattle.traversal.specs.declared.spot.Spot.{Spot}
 use Rattle.traversal.specs.declared.spot.Fork.{Fork}
-use Rattle.traversal.specs.Nearby.{turn_within, far_of, SmallSquares}
+use Rattle.traversal.specs.Nearby.{sum_by, turn_within, far_of, SmallSquares}
 use Rattle.traversal.specs.Children.{child_at}
 use Rattle.traversal.specs.Places.{children_in}
 use Rattle.traversal.specs.declared.children.Children.{Children}
 use Rattle.traversal.specs.Search.{Searching, search_entering, own_search}
-use Rattle.traversal.specs.Spot.{Forked, turn_at, siblings_at, split_at}
+use Rattle.traversal.specs.Spot.{Stood, Forked, turn_spot, search_at, turn_at, siblings_at, split_at}
 use Rattle.traversal.proofs.Laws.Places.{NextChild}
 use Rattle.traversal.proofs.Laws.Cubes.{limit_rows}
 use Rattle.traversal.proofs.Laws.Nearby.{sum_is, sum_fits}
@@ -25,6 +25,7 @@ use Rattle.traversal.proofs.Laws.Search.Path.{Siblings, turning_begins, next_is,
 use Rattle.nearest.specs.Best.{Kept, bests}
 use Rattle.traversal.specs.Steps.{SearchReady}
 use Rattle.nearest.specs.declared.best.Search.{Search}
+use Rattle.nearest.specs.declared.visit.Asked.{Asked}
 use Rattle.nearest.specs.Steps.{search_as, search_in, search_after}
 use Rattle.nearest.proofs.Laws.Closer.{best_steady, best_beyond}
 use Rattle.nearest.proofs.Laws.Starting.{lent_ready}
@@ -37,7 +38,12 @@ known : (ws : List ℕ) (lent : Search) {p : Probe} {spot : Spot} {fork : Fork} 
 known ws lent f e =
     record { forked = f; far_is = e; beyond = best_beyond (search_in lent).kept; steady = best_steady _ _ }
 
-turning : (t : ℕ) (c : siblings-In-Some t) → SearchReady c.args.tables.now.samples.now c.args.tables.now.octants.now (search_in c.loop-turn.search)
+-- What is lent once an octant was visited, by a probe.
+abbrev after_visit : Asked → ℕ → Spot → Search → Probe → Search
+after_visit asked row spot lent q =
+    search_after (search_at (bests asked.tables.samples.now q) asked.tables.samples.now asked.tables.octants.now q row spot) lent
+
+turning : (t : ℕ) (c : siblings-In-Some t) → SearchReady c.args.asked.now.tables.samples.now c.args.asked.now.tables.octants.now (search_in c.loop-turn.search)
 turning t c = still_ready c.requires.ready c.loop-turn.invariant.limits
 
 -- The sibling that is next, and what is told of its turn.
@@ -45,14 +51,15 @@ found : (t : ℕ) (c : siblings-In-Some t)
     → NextChild (turn_within (search_in c.args.search.now).kept.distance c.args.at.spot.near c.far-far.result) c.loop-turn.invariant.done c.in-Some.turn
     (children_in c.next.new.self.left)
 found t c =
-    next_is (known c.args.tables.now.samples.now c.args.search.now c.args.at.forked c.far-far.ensures) c.loop-turn.invariant c.in-Some.ensures.steps
+    next_is (known c.args.asked.now.tables.samples.now c.args.search.now c.args.at.forked c.far-far.ensures) c.loop-turn.invariant c.in-Some.ensures.steps
 
-told : (t : ℕ) (c : siblings-After-reaches t)
-    → Told (bests c.args.tables.now.samples.now c.args.at.probe) c.args.tables.now.samples.now c.args.tables.now.octants.now c.args.at.probe c.args.row c.args.at.spot c.in-Some.turn
-    (search_in c.loop-turn.search) c.child_at-next.result c.sibling-to.result c.reaches.result
-told t c =
-    turn_told (c.child_at-next.ensures ∙ ap (child_at c.args.tables.now.octants.now c.args.row) (kid_turn c.args.at.forked _)) c.sibling-to.ensures
-    (c.sum.ensures ∙ sum_is _) c.octant_limit-limit.ensures (c.reaches.ensures c.args.tables.now.samples.now c.args.at.probe)
+told : (t : ℕ) (c : siblings-After-reaches t) {to : Spot} → to ≡ turn_spot c.args.at.probe c.args.at.spot c.in-Some.turn
+    → Told (bests c.args.asked.now.tables.samples.now c.args.at.probe) c.args.asked.now.tables.samples.now c.args.asked.now.tables.octants.now c.args.at.probe c.args.row c.args.at.spot c.in-Some.turn
+    (search_in c.loop-turn.search) c.child_at-next.result to c.reaches.result
+told t c e =
+    turn_told (c.child_at-next.ensures ∙ ap (child_at c.args.asked.now.tables.octants.now c.args.row) (kid_turn c.args.at.forked _)) e
+    (c.sum.ensures ∙ sum_is _ ∙ ap sum_by (c.sibling_near-near.ensures ∙ ap (λ (x : Spot). x.near) (sym e)))
+    c.args.asked.now.limit_is (c.reaches.ensures c.args.asked.now.tables.samples.now c.args.at.probe)
 
 pub siblings-turns-requires : goal.siblings-turns-requires
 siblings-turns-requires t c = far_rising c.args.at.forked c.far-far.ensures
@@ -70,51 +77,53 @@ siblings-child_at-next-requires t c =
 
 pub siblings-sum-requires : goal.siblings-sum-requires
 siblings-sum-requires t c =
-    sum_fits (subst (λ (x : Spot). SmallSquares x.near) (sym c.sibling-to.ensures) (turn_small c.args.at.forked _))
+    sum_fits (subst SmallSquares (sym c.sibling_near-near.ensures) (turn_small c.args.at.forked _))
 
 pub siblings-visit-requires : goal.siblings-visit-requires
 siblings-visit-requires t c =
     let at = goal.at.siblings-visit-requires t c in
     let f = c.args.at.forked in
-    let d = subst (Told _ _ _ _ _ _ _ _ _ _) c.if-reaches.true (told t at.After-reaches) in (
+    let d = subst (Told _ _ _ _ _ _ _ _ _ _) c.if-reaches.true (told t at.After-reaches c.sibling.ensures) in (
       omega (arith, c.decreases, told_depth d f, f.deep),
-      ((told_stood d f, (told_room d).0), (turning t at.In-Some, (told_room d).1)),
+      ((subst (λ (q : Probe). Stood q c.sibling.result) c.requires.same (told_stood d f), (told_room d).0), (turning t at.In-Some, (told_room d).1)),
     )
 
 pub siblings-loop-turn-preserved-then-reaches : goal.siblings-loop-turn-preserved-then-reaches
 siblings-loop-turn-preserved-then-reaches t c =
     let at = goal.at.siblings-loop-turn-preserved-then-reaches t c in
-    turning_visited (known c.args.tables.now.samples.now c.args.search.now c.args.at.forked c.far-far.ensures) c.loop-turn.invariant c.in-Some.ensures.steps (subst (Told _ _ _ _ _ _ _ _ _ _) c.if-reaches.true (told t at.After-reaches)) (ap search_in c.visit.ensures)
+    turning_visited (known c.args.asked.now.tables.samples.now c.args.search.now c.args.at.forked c.far-far.ensures) c.loop-turn.invariant c.in-Some.ensures.steps (subst (Told _ _ _ _ _ _ _ _ _ _) c.if-reaches.true (told t at.After-reaches c.sibling.ensures)) (ap search_in (c.visit.ensures ∙ ap (after_visit c.args.asked.now c.child_at-next.result c.sibling.result c.loop-turn.search) (sym c.requires.same)))
 
 pub siblings-loop-turn-preserved : goal.siblings-loop-turn-preserved
 siblings-loop-turn-preserved t c =
     let at = goal.at.siblings-loop-turn-preserved t c in
-    turning_barred (known c.args.tables.now.samples.now c.args.search.now c.args.at.forked c.far-far.ensures) c.loop-turn.invariant c.in-Some.ensures.steps (subst (Told _ _ _ _ _ _ _ _ _ _) c.if-reaches.false (told t at.After-reaches))
+    turning_barred (known c.args.asked.now.tables.samples.now c.args.search.now c.args.at.forked c.far-far.ensures) c.loop-turn.invariant c.in-Some.ensures.steps (subst (Told _ _ _ _ _ _ _ _ _ _) c.if-reaches.false (told t at.After-reaches refl))
 
 pub siblings-returns : goal.siblings-returns
 siblings-returns t c =
     ap search_as
-    (turning_ends (known c.args.tables.now.samples.now c.args.search.now c.args.at.forked c.far-far.ensures) c.loop-turn.invariant c.in-None.ensures.steps.0)
+    (turning_ends (known c.args.asked.now.tables.samples.now c.args.search.now c.args.at.forked c.far-far.ensures) c.loop-turn.invariant c.in-None.ensures.steps.0)
 
 -- What is told of turn 0.
 closest : (t : ℕ) (c : split-After-reaches t)
-    → Told (bests c.args.tables.now.samples.now c.args.at.probe) c.args.tables.now.samples.now c.args.tables.now.octants.now c.args.at.probe c.args.row c.args.at.spot 0 (search_in c.args.search.now)
+    → Told (bests c.args.asked.now.tables.samples.now c.args.at.probe) c.args.asked.now.tables.samples.now c.args.asked.now.tables.octants.now c.args.at.probe c.args.row c.args.at.spot 0 (search_in c.args.search.now)
     c.child_at-next.result c.closest-to.result c.reaches.result
 closest t c =
     turn_told
-    (c.child_at-next.ensures ∙ ap (child_at c.args.tables.now.octants.now c.args.row) (kid_first c.args.at.forked))
-    c.closest-to.ensures (c.sum.ensures ∙ sum_is _) c.octant_limit.ensures (c.reaches.ensures c.args.tables.now.samples.now c.args.at.probe)
+    (c.child_at-next.ensures ∙ ap (child_at c.args.asked.now.tables.octants.now c.args.row) (kid_first c.args.at.forked))
+    c.closest-to.ensures (c.sum.ensures ∙ sum_is _) c.args.asked.now.limit_is (c.reaches.ensures c.args.asked.now.tables.samples.now c.args.at.probe)
 
 -- Whether or not it was entered, turn 0 was taken.
 first_turn : (t : ℕ) (c : split-Joined-reaches t)
-    → Told (bests c.args.tables.now.samples.now c.args.at.probe) c.args.tables.now.samples.now c.args.tables.now.octants.now c.args.at.probe c.args.row c.args.at.spot 0 (search_in c.args.search.now)
+    → Told (bests c.args.asked.now.tables.samples.now c.args.at.probe) c.args.asked.now.tables.samples.now c.args.asked.now.tables.octants.now c.args.at.probe c.args.row c.args.at.spot 0 (search_in c.args.search.now)
     c.child_at-next.result c.closest-to.result c.reaches.result
     → c.if-reaches.search
-    ≡ search_after (turn_at (bests c.args.tables.now.samples.now c.args.at.probe) c.args.tables.now.samples.now c.args.tables.now.octants.now c.args.at.probe c.args.row c.args.at.spot 0) c.args.search.now
+    ≡ search_after (turn_at (bests c.args.asked.now.tables.samples.now c.args.at.probe) c.args.asked.now.tables.samples.now c.args.asked.now.tables.octants.now c.args.at.probe c.args.row c.args.at.spot 0) c.args.search.now
 first_turn t c d =
     elim c.if-reaches.branch [
       | split-then-reaches w ↦
-          w.search-is ∙ w.visit.ensures ∙ ap search_as (sym (told_entered (subst (Told _ _ _ _ _ _ _ _ _ _) w.if-reaches.true d)))
+          w.search-is ∙ w.visit.ensures
+          ∙ ap (after_visit c.args.asked.now c.child_at-next.result c.closest-to.result c.args.search.now) (sym c.requires.same)
+          ∙ ap search_as (sym (told_entered (subst (Told _ _ _ _ _ _ _ _ _ _) w.if-reaches.true d)))
       | split-else-reaches w ↦
           w.search-is ∙ ap search_as (sym (told_barred (subst (Told _ _ _ _ _ _ _ _ _ _) w.if-reaches.false d)))
     ]
@@ -132,7 +141,7 @@ split-visit-requires t c =
     let f = c.args.at.forked in
     let d = subst (Told _ _ _ _ _ _ _ _ _ _) c.if-reaches.true (closest t (goal.at.split-visit-requires t c).After-reaches) in (
       omega (arith, c.decreases, told_depth d f, f.deep),
-      ((told_stood d f, (told_room d).0), (c.requires.ready, (told_room d).1)),
+      ((subst (λ (q : Probe). Stood q c.closest-to.result) c.requires.same (told_stood d f), (told_room d).0), (c.requires.ready, (told_room d).1)),
     )
 
 pub split-siblings-requires : goal.split-siblings-requires
@@ -140,9 +149,12 @@ split-siblings-requires t c =
     let at = goal.at.split-siblings-requires t c in (
       omega (arith, c.decreases),
       (
-        c.requires.row_bound,
-        lent_ready c.requires.ready _ (first_turn t at.Joined-reaches (closest t at.After-reaches))
-            (turn_at_within (bests c.args.tables.now.samples.now c.args.at.probe) c.args.tables.now.samples.now c.args.tables.now.octants.now c.args.at.probe c.args.row c.args.at.spot 0 c.requires.ready.limits),
+        c.requires.same,
+        (
+          c.requires.row_bound,
+          lent_ready c.requires.ready _ (first_turn t at.Joined-reaches (closest t at.After-reaches))
+              (turn_at_within (bests c.args.asked.now.tables.samples.now c.args.at.probe) c.args.asked.now.tables.samples.now c.args.asked.now.tables.octants.now c.args.at.probe c.args.row c.args.at.spot 0 c.requires.ready.limits),
+        ),
       ),
     )
 
@@ -151,17 +163,17 @@ unfolding split_at
 split-returns t c =
     let at = goal.at.split-returns t c in
     c.siblings.ensures
-    ∙ ap (λ (u : Searching Kept). search_as (siblings_at (bests c.args.tables.now.samples.now c.args.at.probe) c.args.tables.now.samples.now c.args.tables.now.octants.now c.args.at.probe c.args.row c.args.at.spot u))
+    ∙ ap (λ (u : Searching Kept). search_as (siblings_at (bests c.args.asked.now.tables.samples.now c.args.at.probe) c.args.asked.now.tables.samples.now c.args.asked.now.tables.octants.now c.args.at.probe c.args.row c.args.at.spot u))
     (ap search_in (first_turn t at.Joined-reaches (closest t at.After-reaches)))
 
 -- What is lent once the octant is entered.
 went_in : (t : ℕ) (c : visit-After-enter t) → search_in c.enter.new.self ≡ search_entering (search_in c.args.search.now)
 went_in t c = ap search_in c.enter.ensures
 
-still : (t : ℕ) (c : visit-After-enter t) → SearchReady c.args.tables.now.samples.now c.args.tables.now.octants.now (search_in c.enter.new.self)
+still : (t : ℕ) (c : visit-After-enter t) → SearchReady c.args.asked.now.tables.samples.now c.args.asked.now.tables.octants.now (search_in c.enter.new.self)
 still t c =
     lent_ready c.requires.ready _ c.enter.ensures
-    (entering_within (bests c.args.tables.now.samples.now c.args.p) c.args.tables.now.samples.now c.args.tables.now.octants.now c.args.p _ c.requires.search_bound c.requires.ready.limits)
+    (entering_within (bests c.args.asked.now.tables.samples.now c.args.asked.now.probe) c.args.asked.now.tables.samples.now c.args.asked.now.tables.octants.now c.args.asked.now.probe _ c.requires.search_bound c.requires.ready.limits)
 
 pub visit-ends-requires : goal.visit-ends-requires
 unfolding depths
@@ -172,34 +184,34 @@ visit-own-requires-clause-ready t c = still t (goal.at.visit-own-requires-clause
 
 pub visit-returns-then-ends : goal.visit-returns-then-ends
 visit-returns-then-ends t c =
-    let ws = c.args.tables.now.samples.now in
-    let os = c.args.tables.now.octants.now in
+    let ws = c.args.asked.now.tables.samples.now in
+    let os = c.args.asked.now.tables.octants.now in
     c.own.ensures
     ∙ ap search_as
-    (ap (own_search (bests ws c.args.p) ws os c.args.row) (went_in t (goal.at.visit-returns-then-ends t c).After-enter)
-    ∙ sym (search_own (bests ws c.args.p) ws os c.args.p c.args.row c.args.spot _ (sym c.ends.ensures ∙ c.if-ends.true)))
+    (ap (own_search (bests ws c.args.asked.now.probe) ws os c.args.row) (went_in t (goal.at.visit-returns-then-ends t c).After-enter)
+    ∙ sym (search_own (bests ws c.args.asked.now.probe) ws os c.args.asked.now.probe c.args.row c.args.spot _ (sym c.ends.ensures ∙ c.if-ends.true)))
 
 pub visit-new-requires : goal.visit-new-requires
 visit-new-requires t c =
-    let ws = c.args.tables.now.samples.now in
-    let os = c.args.tables.now.octants.now in
+    let ws = c.args.asked.now.tables.samples.now in
+    let os = c.args.asked.now.tables.octants.now in
     record {
       stood = c.requires.stood.0;
-      deep = search_deep (bests ws c.args.p) ws os c.args.p c.args.row c.args.spot (search_in c.args.search.now) (sym c.ends.ensures ∙ c.if-ends.false);
+      deep = search_deep (bests ws c.args.asked.now.probe) ws os c.args.asked.now.probe c.args.row c.args.spot (search_in c.args.search.now) (sym c.ends.ensures ∙ c.if-ends.false);
     }
 
 pub visit-split-requires : goal.visit-split-requires
 visit-split-requires t c = (
   omega (arith, c.decreases, ap (λ (x : Spot). x.cube.depth) c.new.ensures.spot),
-  (c.requires.stood.1, still t (goal.at.visit-split-requires t c).After-enter),
+  (c.new.ensures.probe, (c.requires.stood.1, still t (goal.at.visit-split-requires t c).After-enter)),
 )
 
 pub visit-returns : goal.visit-returns
 visit-returns t c =
-    let ws = c.args.tables.now.samples.now in
-    let os = c.args.tables.now.octants.now in
+    let ws = c.args.asked.now.tables.samples.now in
+    let os = c.args.asked.now.tables.octants.now in
     c.split.ensures
     ∙ ap₂ (λ (q : Probe) (x : Spot). search_after (split_at (bests ws q) ws os q c.args.row x) c.enter.new.self) c.new.ensures.probe c.new.ensures.spot
     ∙ ap search_as
-    (ap (split_at (bests ws c.args.p) ws os c.args.p c.args.row c.args.spot) (went_in t (goal.at.visit-returns t c).After-enter)
-    ∙ sym (search_split (bests ws c.args.p) ws os c.args.p c.args.row c.args.spot _ (sym c.ends.ensures ∙ c.if-ends.false)))
+    (ap (split_at (bests ws c.args.asked.now.probe) ws os c.args.asked.now.probe c.args.row c.args.spot) (went_in t (goal.at.visit-returns t c).After-enter)
+    ∙ sym (search_split (bests ws c.args.asked.now.probe) ws os c.args.asked.now.probe c.args.row c.args.spot _ (sym c.ends.ensures ∙ c.if-ends.false)))

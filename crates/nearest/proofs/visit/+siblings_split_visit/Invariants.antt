@@ -18,5 +18,5 @@ decreases-visit l = suc (suc (3 * (16 - l.spot.cube.depth)))
 
 abbrev pub invariant-siblings-loop-turn : goal.invariant-siblings-loop-turn
 invariant-siblings-loop-turn l =
-    Turning (bests l.tables.samples.now l.at.probe) l.tables.samples.now l.tables.octants.now l.at.probe l.row l.at.spot l.far (search_in l.initial.search).kept.distance (search_in l.initial.search)
+    Turning (bests l.asked.tables.samples.now l.at.probe) l.asked.tables.samples.now l.asked.tables.octants.now l.at.probe l.row l.at.spot l.far (search_in l.initial.search).kept.distance (search_in l.initial.search)
     (children_in l.turn-iterator.left) (search_in l.search)

@@ -3,9 +3,8 @@ use native.Mathlib.Omega.{arith}
 use Rattle.traversal.proofs.Laws.Nearby.{turns_none}
 use Rattle.traversal.proofs.nearby.turns.Goals as goal
 
-pub returns-then-most-sum : goal.returns-then-most-sum
-returns-then-most-sum c =
+pub returns-then-most-least : goal.returns-then-most-least
+returns-then-most-least c =
     let inner = c.min.ensures in
-    let outer = c.min-rise.ensures in
-    turns_none _ _ _ c.min-rise.result c.requires (omega (arith, outer, inner)) (omega (arith, outer, inner)) (omega (arith, outer))
-    (omega (arith, c.sum.ensures, c.if-most-sum.true))
+    let outer = c.min-least.ensures in
+    turns_none _ _ _ c.min-least.result (omega (arith, outer, inner)) (omega (arith, outer, inner)) (omega (arith, outer)) c.if-most-least.true
