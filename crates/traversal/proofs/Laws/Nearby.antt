@@ -47,11 +47,11 @@ square_is : (x s low : ℕ) → 1 ≤ s → closest_square x s low ≡ ((low - x
 unfolding closest_square
 square_is x s low p = ap (λ (n : ℕ). n * n) (gap_is x s low p)
 
-pub far_yes : (x middle : ℕ) → middle ≤ x → far_gap x middle ≡ x - middle + 1
+far_yes : (x middle : ℕ) → middle ≤ x → far_gap x middle ≡ x - middle + 1
 unfolding far_gap
 far_yes x middle h = rw (le-leb middle x h, far_gap)
 
-pub far_no : (x middle : ℕ) → x < middle → far_gap x middle ≡ middle - x
+far_no : (x middle : ℕ) → x < middle → far_gap x middle ≡ middle - x
 unfolding far_gap
 far_no x middle h = rw (lt-leb middle x h, far_gap)
 
