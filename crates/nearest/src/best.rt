@@ -40,8 +40,8 @@ impl Search {
         }
     }
 
-    // Whether what is so far, in the octant in a row, comes before the closest sample. (Most are closer, and one test tells so: a comparison of pairs makes all
-    // three.)
+    // Whether what is so far, in the octant in a row, comes before the closest sample. (Most that are asked about are closer, and one test
+    // tells; a comparison of pairs makes three.)
     #[tactic(auto, using(crate::proofs::Laws::Closer::closer_yes, crate::proofs::Laws::Closer::closer_no))]
     fn closer(&self, distance: u64, octant: u32) -> bool
         ensures { result ≡ closer (search_in self.now).kept distance octant }

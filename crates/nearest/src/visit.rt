@@ -19,8 +19,8 @@ use traversal::spot::{Crossing, Spot, root_spot};
 use words::layout::{sample_rows, tag as tag_of};
 use words::tables::Tables;
 
-// What is asked: the tables, what distances are measured from, and the rows below which an octant may be entered, which are worked out once. It is lent down
-// the recursion: each call hands on one address.
+// What is asked: the tables, what distances are measured from, and the limit of octant rows, worked out once. It is lent down the recursion: each call hands
+// on one address.
 #[derive(Clone, Copy)]
 struct Asked<'a> {
     tables: Tables<'a>,

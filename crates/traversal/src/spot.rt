@@ -113,7 +113,7 @@ impl Crossing {
         turned(self.spot.near, far, m)
     }
 
-    // That sibling.
+    // The sibling of turn m, by what it adds.
     #[tactic(auto, using(crate::proofs::Laws::Search::Spots::kid_turn, crate::proofs::Laws::Search::Spots::spot_is))]
     pub fn sibling(self, near: Squares, m: u32) -> Spot
         requires { near ≡ (turn_spot self.probe self.spot m).near }
