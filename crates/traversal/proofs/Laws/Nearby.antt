@@ -47,21 +47,14 @@ square_is : (x s low : ℕ) → 1 ≤ s → closest_square x s low ≡ ((low - x
 unfolding closest_square
 square_is x s low p = ap (λ (n : ℕ). n * n) (gap_is x s low p)
 
-far_yes : (x middle : ℕ) → middle ≤ x → far_gap x middle ≡ x - middle + 1
-unfolding far_gap
-far_yes x middle h = rw (le-leb middle x h, far_gap)
-
-far_no : (x middle : ℕ) → x < middle → far_gap x middle ≡ middle - x
-unfolding far_gap
-far_no x middle h = rw (lt-leb middle x h, far_gap)
-
--- Both at once: one of the two differences is 0.
+-- How far a code is from the far half, as two differences of which one is 0.
 pub far_apart : (x middle : ℕ) → (x + 1 - middle) + (middle - x) ≡ far_gap x middle
+unfolding far_gap
 far_apart x middle = go (leb middle x) refl
   where
     go : (t : Bool) → leb middle x ≡ t → (x + 1 - middle) + (middle - x) ≡ far_gap x middle
-    go true f = let h : middle ≤ x = leb-true middle x f in rw (far_yes x middle h) (omega arith)
-    go false f = let h : x < middle = leb-false middle x f in rw (far_no x middle h) (omega arith)
+    go true f = let h : middle ≤ x = leb-true middle x f in rw (f, far_gap) (omega arith)
+    go false f = let h : x < middle = leb-false middle x f in rw (f, far_gap) (omega arith)
 
 -- The bit of the half that a code is in or closer to.
 unfoldable near_bit : ℕ → ℕ → ℕ
@@ -98,11 +91,11 @@ module _ (x s low : ℕ) (some : 1 ≤ s) where
       go true f =
           let h : low + s ≤ x = leb-true (low + s) x f in
           let none : b ≡ 0 = omega (arith, e, near_yes x (low + s) h) in
-          rw (none, far_yes x (low + s) h) (omega arith)
+          rw none (omega (arith, far_apart x (low + s)))
       go false f =
           let h : x < low + s = leb-false (low + s) x f in
           let one : b ≡ 1 = omega (arith, e, near_no x (low + s) h) in
-          rw (one, far_no x (low + s) h) (omega arith)
+          rw one (omega (arith, far_apart x (low + s)))
 
 -- The closest child is one of the eight.
 pub closest_child_small : (c : Colour) (s : ℕ) (low : Colour) → closest_child c s low < 8
@@ -215,19 +208,11 @@ turned_none near far = refl
 -- A half is no closer than the whole, and no square is too large.
 far_more : (x s low : ℕ) → 1 ≤ s → closest_square x (s + s) low ≤ far_square x (low + s)
 unfolding far_square
-far_more x s low some = rw (square_is x (s + s) low (omega arith)) (square_most (go (leb (low + s) x) refl))
-  where
-    go : (t : Bool) → leb (low + s) x ≡ t → (low - x) + (suc x - (low + (s + s))) ≤ far_gap x (low + s)
-    go true f = let h : low + s ≤ x = leb-true (low + s) x f in rw (far_yes x (low + s) h) (omega arith)
-    go false f = let h : x < low + s = leb-false (low + s) x f in rw (far_no x (low + s) h) (omega arith)
+far_more x s low some = rw (square_is x (s + s) low (omega arith)) (square_most (omega (arith, far_apart x (low + s))))
 
 far_most : (x middle : ℕ) → x ≤ 65535 → middle ≤ 65536 → far_square x middle ≤ 4294967296
 unfolding far_square
-far_most x middle a b = square_most {m = 65536} (go (leb middle x) refl)
-  where
-    go : (t : Bool) → leb middle x ≡ t → far_gap x middle ≤ 65536
-    go true f = let h : middle ≤ x = leb-true middle x f in rw (far_yes x middle h) (omega arith)
-    go false f = let h : x < middle = leb-false middle x f in rw (far_no x middle h) (omega arith)
+far_most x middle a b = square_most {m = 65536} (omega (arith, far_apart x middle))
 
 pub near_far : (p : Probe) (s : ℕ) (low : Colour) → Fine p → ((h : Channel) → (1 ≤ s) × (code_in h low + (s + s) ≤ 65536))
     → NearFar (near_of p (s + s) low) (far_of p s low)
