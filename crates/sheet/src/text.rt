@@ -21,13 +21,16 @@ pub fn name_bytes(text: &[u8]) -> usize
         .unwrap_or(text.len())
 }
 
-// A text at the left of its place, blanks after.
+// A text at the left of its place, blanks after. (By a loop: `copy_from_slice` of a length that is not known is a call of `memmove`, which the C library would
+// need from outside.)
 #[tactic(auto, unfolding(crate::specs::Column::blank), using(crate::proofs::Laws::Parts::left_whole))]
 pub fn put_left(place: &mut [u8], text: &[u8])
     requires { length text.now ≤ length place.old }
     ensures { place.new ≡ text.now
         ++ replicate (length place.old - length text.now) blank }
 {
-    place[..text.len()].copy_from_slice(text);
+    for (i, byte) in text.iter().enumerate() {
+        place[i] = *byte;
+    }
     place[text.len()..].fill(b' ');
 }

@@ -7,7 +7,7 @@ ghost use Rattle.model.specs.Layout.{Tag, Code, Next, First, Count, Child, curre
 ghost use Rattle.model.specs.Layout.{sample_header, octant_header, sample_rows, octant_rows, octant_width};
 ghost use Rattle.model.specs.Tables.{header_words};
 ghost use Rattle.words.specs.Rows.{sample_start, octant_start, sample_at, sample_field, octant_field, settings_in, count_in};
-ghost use Rattle.words.specs.Rows.{sample_in, with_sample, octant_row_by};
+ghost use Rattle.words.specs.Rows.{octant_limit, sample_budget, sample_in, with_sample, octant_row_by};
 
 use colour::{Channels, Colour, Sample, Settings};
 
@@ -122,6 +122,25 @@ pub fn settings(samples: &[u32]) -> Settings
     Settings {
         bucket: samples[BUCKET],
     }
+}
+
+// The rows below which an octant may be entered, whatever the words are: the lesser of the count that the table says and the rows that it has.
+#[tactic(auto, unfolding(crate::specs::Rows::octant_limit))]
+pub fn octant_limit(octants: &[u32]) -> u32
+    requires { octant_header current ≤ length octants.now }
+    ensures { result ≡ octant_limit current octants.now }
+{
+    (count(octants) as usize).min(octant_rows(octants.len())) as u32
+}
+
+// The samples that are there to be read, whatever the words are.
+#[tactic(auto, unfolding(crate::specs::Rows::sample_budget, model::specs::Layout::sample_header, model::specs::Layout::current))]
+pub fn sample_budget(samples: &[u32]) -> u32
+    requires { sample_header current ≤ length samples.now }
+    ensures is { result ≡ sample_budget current samples.now }
+    ensures bounded { result ≤ 4096 }
+{
+    (count(samples) as usize).min(sample_rows(samples.len())) as u32
 }
 
 // Where sample row i of a table that has it starts. It is there whole.

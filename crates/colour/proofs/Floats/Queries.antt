@@ -1,7 +1,7 @@
 -- A query taken apart: from what its floats' answers tell to what it asks.
 use mathlib.Core.Path.{◌≡◌, refl, sym, ap, ◌∙◌}
-use mathlib.Core.Bool.{Bool, true, false, ◌&&◌, and-false}
-use Prim.Native.Nat.{ℕ}
+use mathlib.Core.Bool.{Bool, true, false, ◌&&◌, and-false, and-eq-true_iff}
+use Prim.Native.Nat.{ℕ, ◌<◌}
 use native.Mathlib.Omega.{arith}
 use lib.Ieee.{Float}
 use Rattle.std.specs.Prelude.{Result, Ok, Err}
@@ -9,17 +9,20 @@ use Rattle.colour.specs.Channels.{Colour, PanelColour}
 use Rattle.colour.specs.declared.Probe.{Probe}
 use Rattle.colour.specs.declared.Query.{Query}
 use Rattle.colour.specs.declared.Query.TheVariants as Q
+use Rattle.colour.specs.declared.Region.{Region}
 use Rattle.colour.specs.declared.Region.TheVariants as R
 use Rattle.colour.specs.declared.panel.Wanted.{Wanted}
 use Rattle.colour.specs.declared.panel.Wanted.TheVariants as W
 use Rattle.colour.specs.declared.refusal.Refusal.{Refusal}
 use Rattle.colour.specs.declared.refusal.Refusal.TheVariants.{OutOfRange}
+use Rattle.colour.specs.Colour.{codes_fit}
 use Rattle.colour.specs.Panel.{panel_good, radius_good, codes_of, code_of, channel_if, codes_if}
 use Rattle.colour.specs.Probe.{probe}
 use Rattle.colour.specs.Question.{first_no}
 use Rattle.colour.specs.Query.{ordered, query_good, query_questions, in_codes, asked_of, sphere_if}
 use Rattle.colour.specs.Refusal.{answer_number}
 use Rattle.colour.proofs.Floats.Answers.{code_told, code_refused, codes_told, codes_refused}
+use Rattle.colour.proofs.Floats.Codes.{code_below, good_fit}
 
 -- A good query is answered in its codes, any other is refused.
 module _ (q : Query) where
@@ -115,6 +118,34 @@ module _ (low high : PanelColour) where
 
     pub box_no : ordered l h ≡ false → asked_of (Q.Box low high) ≡ Err OutOfRange
     box_no e = asked_no (Q.Box low high) (box_good ∙ e)
+
+-- What a query asks lies in range: codes up to 65,535, a radius below 131,072, a box in order.
+abbrev pub SphereFits : Probe → ℕ → Type 0
+SphereFits p n = (codes_fit p.centre ≡ true) × (n < 131072)
+
+abbrev pub RegionFits : Region → Type 0
+RegionFits (R.Ball p n) = SphereFits p n
+RegionFits (R.Box l h) = (codes_fit l ≡ true) × (codes_fit h ≡ true) × (ordered l h ≡ true)
+
+abbrev pub WantedFits : Wanted → Type 0
+WantedFits (W.Listed r) = RegionFits r
+WantedFits (W.Nearest p n) = SphereFits p n
+
+sphere_fits : (p : PanelColour) (v : Float) → (panel_good p && radius_good v) ≡ true → SphereFits (probe (codes_of p)) (code_of v)
+unfolding radius_good
+sphere_fits p v e = (good_fit p ((and-eq-true_iff (panel_good p) (radius_good v)).0 e).0, code_below 2 v ((and-eq-true_iff (panel_good p) (radius_good v)).0 e).1)
+
+pub wanted_fits : (q : Query) → query_good q ≡ true → WantedFits (in_codes q)
+unfolding query_good in_codes
+wanted_fits (Q.Ball p v) e = sphere_fits p v e
+wanted_fits (Q.Nearest p v) e = sphere_fits p v e
+wanted_fits (Q.Box low high) e =
+    let o = ordered (codes_of low) (codes_of high) in
+    let both = ((and-eq-true_iff (panel_good low && panel_good high) o).0 e).0 in (
+      good_fit low ((and-eq-true_iff (panel_good low) (panel_good high)).0 both).0,
+      good_fit high ((and-eq-true_iff (panel_good low) (panel_good high)).0 both).1,
+      ((and-eq-true_iff (panel_good low && panel_good high) o).0 e).1,
+    )
 
 -- What a query asks for tells that it is good, and in what codes; a refusal tells that it is not.
 pub asked_told : (q : Query) (w : Wanted) → asked_of q ≡ Ok w → (query_good q ≡ true) × (in_codes q ≡ w)

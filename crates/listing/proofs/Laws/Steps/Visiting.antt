@@ -52,7 +52,7 @@ module _ (ws os : List ℕ) (R : Region) (row : ℕ) (low : Colour) (t : Tally) 
   visit_turns zero e = absurd (omega (arith, ends_deep zero e))
   visit_turns (suc j) e = rw (sub-one, e, visit_of)
 
--- An octant's own samples, gone through by their next lent and counted.
+-- An octant's own samples, gone through by their next words and counted.
 module _ (ws os : List ℕ) (R : Region) (whole : Bool) (row : ℕ) (lent : Lent.Tally) where
   abbrev most : ℕ
   most = own_most ws os row (tally_in lent).visited
@@ -113,7 +113,7 @@ module _ (ws os : List ℕ) (R : Region) (row : ℕ) (cube : Cube) (lent lent₁
         listed = omega (arith, many, ap (λ (t : Tally). t.visited) said, c.listed);
       }
 
-  -- From the lent before the octant was entered.
+  -- From the tally before the octant was entered.
   from_before : {v : Visit} {lent' : Lent.Tally} {listing listing' : List ℕ} → Visited v lent₁ listing lent' listing' → Visited v lent listing lent' listing'
   from_before {v} {lent'} {listing} d =
       record {

@@ -33,9 +33,15 @@ pub line_says : (r : Result Line Refusal) (s : List ℕ) → line_answer r ≡ r
 unfolding line_answer read_line line_asked
 line_says r s e = ap (λ (a : LineAnswer). a.line) e
 
--- The name of a good line has at most 32 bytes.
+-- The name of a good line has 1 to 32 bytes. So a part of no bytes is never a name that was found.
+pub name_length : (s : List ℕ) (l : Line) → line_of s ≡ Some l → (1 ≤ l.name_length) × (l.name_length ≤ name_columns)
+name_length s l e =
+    let size = line_name_size s l e in
+    let g = name_good_lem _ (line_name_good s l e) in
+    (omega (arith, g.named), omega (arith, g.fits))
+
 name_fits : (s : List ℕ) (l : Line) → line_of s ≡ Some l → l.name_length ≤ name_columns
-name_fits s l e = omega (arith, line_name_size s l e, (name_good_lem _ (line_name_good s l e)).fits)
+name_fits s l e = (name_length s l e).1
 
 -- The part, where all lines are good.
 unfoldable pub where_good : Bool → Part → Part
