@@ -8,7 +8,7 @@ ghost use Rattle.colour.specs.Question.{first_no};
 ghost use Rattle.colour.specs.Refusal.{answer_number};
 
 use crate::refusal::Refusal;
-use crate::{Codes, Colour, PanelColour, Probe, Query, Region};
+use crate::{Channels, Codes, Colour, PanelColour, Probe, Query, Region};
 
 // What a query wants, in codes: what lies in a region, or what is nearest to a probe within a radius.
 #[derive(Clone, Copy)]
@@ -60,14 +60,15 @@ fn radius_code(v: f32) -> Result<u32, Refusal>
     code_of(v, 1).ok_or(Refusal::OutOfRange)
 }
 
-// Floats to codes: an exported call.
+// Floats to codes: an exported call. (Each code is named, so that an edit can give one for another.)
 impl TryFrom<PanelColour> for Codes {
     type Error = Refusal;
 
     ghost try_from_gives = { λ p r. (codes_answer r ≡ floats_to_codes p) × (r ≡ codes_if (panel_good p) p) };
 
     fn try_from(p: PanelColour) -> Result<Self, Refusal> {
-        p.try_map(channel_code)
+        let Channels { red, green, blue } = p.try_map(channel_code)?;
+        Ok(Channels { red, green, blue })
     }
 }
 
@@ -107,12 +108,12 @@ impl From<Codes> for Colour {
     }
 }
 
-// A code as a float: one division, which is exact. (By 32 bits: `f32::from` of a code is converted by 64, and codes to floats took 1.3 times as long.)
+// A code as a float: one division, which is exact.
 #[tactic(auto, using(crate::proofs::Floats::Shown::divided, crate::proofs::Floats::Shown::shown_meets))]
 fn show(code: u16) -> f32
     ensures { Shown code result }
 {
-    u32::from(code) as f32 / 65536.0
+    f32::from(code) / 65536.0
 }
 
 // Codes to floats: an exported call.

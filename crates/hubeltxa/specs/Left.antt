@@ -22,10 +22,10 @@ panel_colour_of r g b = record { red = r; green = g; blue = b }
 abbrev pub sample_of : ℕ → ℕ → ℕ → ℕ → Sample
 sample_of t r g b = record { tag = t; colour = colour_of r g b }
 
--- The channels that an answer gives, or `none` in each if it refuses.
-abbrev pub channels_or : {T : Type 0} → Result (Channels T) Refusal → T → Channels T
+-- The channels that an answer gives, or others if it refuses.
+abbrev pub channels_or : {T : Type 0} → Result (Channels T) Refusal → Channels T → Channels T
 channels_or (Ok c) none = c
-channels_or (Err r) none = record { red = none; green = none; blue = none }
+channels_or (Err r) none = none
 
 -- The answer is the number returned and the three words as the call leaves them.
 abbrev pub codes_left : ℕ → ℕ → ℕ → ℕ → CodesAnswer

@@ -19,10 +19,11 @@ use colour::{Channels, Codes, Colour, PanelColour, Query, Sample, Settings};
 use query::answers::Reply;
 use samples::answers::{lines_taken, load_number};
 
-// What a call with three channels answers: the number is returned, and the channels go to the words or floats lent for them.
+// What a call with three channels answers: the number is returned, and the channels, or those of `none` after a refusal, go to the words or floats lent for
+// them. (Its callers write `none` out, so that an edit can spoil one channel of it.)
 fn tell_channels<T: Copy>(
     channels: Result<Channels<T>, Refusal>,
-    none: T,
+    none: Channels<T>,
     red: &mut T,
     green: &mut T,
     blue: &mut T,
@@ -30,7 +31,7 @@ fn tell_channels<T: Copy>(
     ensures number { result ≡ answer_number channels }
     ensures left { record { red = red.new; green = green.new; blue = blue.new } ≡ channels_or channels none }
 {
-    let left = channels.unwrap_or(Channels::all(none));
+    let left = channels.unwrap_or(none);
     *red = left.red;
     *green = left.green;
     *blue = left.blue;
@@ -52,7 +53,18 @@ pub extern "C" fn hbx_codes(
         ≡ floats_to_codes (panel_colour_of red green blue) }
 {
     let codes = Codes::try_from(PanelColour { red, green, blue });
-    tell_channels(codes.map(Colour::from), 0, red_code, green_code, blue_code)
+    let none = Colour {
+        red: 0,
+        green: 0,
+        blue: 0,
+    };
+    tell_channels(
+        codes.map(Colour::from),
+        none,
+        red_code,
+        green_code,
+        blue_code,
+    )
 }
 
 // Codes to floats.
@@ -69,7 +81,12 @@ pub extern "C" fn hbx_floats(
         ≡ codes_to_floats (colour_of red green blue) }
 {
     let floats = PanelColour::try_from(Colour { red, green, blue });
-    tell_channels(floats, 0.0, red_out, green_out, blue_out)
+    let none = PanelColour {
+        red: 0.0,
+        green: 0.0,
+        blue: 0.0,
+    };
+    tell_channels(floats, none, red_out, green_out, blue_out)
 }
 
 // A sample from four numbers.

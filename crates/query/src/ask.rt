@@ -28,10 +28,10 @@ pub fn ask(
         return Err(Refusal::TooShort);
     }
     let tables = Tables { samples, octants };
-    let wanted = Wanted::try_from(query)?;
-    match wanted {
-        Wanted::Listed(region) => of_listed(list(&tables, region, listing)),
-        Wanted::Nearest(p, radius) => Ok(of_best(nearest_code(&tables, p, radius))),
+    match Wanted::try_from(query) {
+        Ok(Wanted::Listed(region)) => of_listed(list(&tables, region, listing)),
+        Ok(Wanted::Nearest(p, radius)) => Ok(of_best(nearest_code(&tables, p, radius))),
+        Err(refusal) => Err(refusal),
     }
 }
 
