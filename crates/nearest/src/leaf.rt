@@ -1,5 +1,5 @@
 // The samples of an octant, measured by their next words. Nothing is trusted: a code is brought into range.
-ghost use Rattle.std.specs.Prelude.{◌<◌, ◌≡◌, length};
+ghost use Rattle.std.specs.Prelude.{◌<◌, ◌≡◌, length, min};
 ghost use Rattle.model.specs.Layout.{current, sample_rows};
 ghost use Rattle.words.specs.Rows.{octant_limit};
 ghost use Rattle.traversal.specs.Search.{own_search};
@@ -22,6 +22,13 @@ fn rank(samples: &[u32], p: Probe, row: usize) -> u64
     squared(p, wrapped(colour_of(samples, row))) * 4096 + (row as u64)
 }
 
+// The lesser of two ranks. (It compares them itself, where `min` would do, so that an edit can leave the row out.)
+fn lesser(a: u64, b: u64) -> u64
+    ensures { result ≡ min a b }
+{
+    if a < b { a } else { b }
+}
+
 // An entered octant's own samples: the least rank needs no branch. (It starts at the greatest number, so that the first sample is no case of its own. `SearchReady` is of
 // tables and search, and so is a field of neither.)
 pub fn own(tables: &Tables<'_>, p: Probe, octant: u32, search: &mut Search)
@@ -36,7 +43,7 @@ pub fn own(tables: &Tables<'_>, p: Probe, octant: u32, search: &mut Search)
     for row in own_rows(tables, octant, search.visited as u32) {
         seen += 1;
         let found = rank(tables.samples, p, row);
-        best = best.min(found);
+        best = lesser(best, found);
     }
     search.take(octant, best, seen);
 }

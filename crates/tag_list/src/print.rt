@@ -8,7 +8,7 @@ ghost use Rattle.tag_list.specs.Printed.{Printed, OrderPrinted, Fits, SheetLoade
 use crate::lines::{PRINTED_LINE, put_refusal, put_tags};
 use colour::{Colour, Region, Settings};
 use listing::list::list;
-use samples::answers::Stop;
+use samples::answers::{Stop, load_number};
 use samples::clear::clear;
 use samples::load::load;
 use words::tables::Tables;
@@ -61,11 +61,10 @@ pub fn print(input: &[u8], text: &mut [u8; TEXT_LENGTH]) -> usize
     let mut samples = [0u32; SAMPLE_WORDS];
     let mut octants = [0u32; OCTANT_WORDS];
     let end = INPUT_LENGTH.min(input.len());
-    match load_sheet(&mut samples, &mut octants, &input[..end]) {
-        Ok(_) => put_order(&samples, &octants, text),
-        Err(stop) => {
-            put_refusal(text, u32::from(stop.refusal));
-            PRINTED_LINE
-        }
+    let number = load_number(load_sheet(&mut samples, &mut octants, &input[..end]));
+    if number != 0 {
+        put_refusal(text, number);
+        return PRINTED_LINE;
     }
+    put_order(&samples, &octants, text)
 }

@@ -289,15 +289,17 @@ pub struct Octant {
 }
 
 impl Octant {
-    // Its row.
+    // Its row. (The children are named one by one, so that an edit can exchange them.)
+    #[tactic(auto, using(crate::proofs::Laws::Layout::Octants::octant_row_lem), unfolding(crate::proofs::Laws::Words::words_from))]
     fn row(&self) -> [u32; OCTANT_WIDTH]
         ensures { result ≡ octant_row_by current self.now.first self.now.last self.now.count self.now.children }
     {
+        let c = &self.children;
         let mut row = [0; OCTANT_WIDTH];
         row[FIRST] = self.first;
         row[LAST] = self.last;
         row[COUNT] = self.count;
-        row[CHILD..].copy_from_slice(&self.children);
+        row[CHILD..].copy_from_slice(&[c[0], c[1], c[2], c[3], c[4], c[5], c[6], c[7]]);
         row
     }
 }

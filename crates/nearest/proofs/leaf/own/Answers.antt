@@ -33,7 +33,7 @@ rank-found-requires c =
     c.loop-row.yielded c.loop-row.row-iterator c.loop-row.yielded_by c.next.result c.next.new.self c.in-Some.row c.in-Some.is c.next.ensures.steps
 
 pub loop-row-preserved : goal.loop-row-preserved
-loop-row-preserved c = one_more _ _ _ c.loop-row.invariant c.in-Some.ensures.steps c.rank-found.ensures (omega arith)
+loop-row-preserved c = one_more _ _ _ c.loop-row.invariant c.in-Some.ensures.steps c.rank-found.ensures c.lesser-best.ensures
 
 pub take-requires : goal.take-requires
 take-requires c =
